@@ -1,0 +1,3 @@
+pub mod Formulas
+pub mod Cycle
+pub mod OneAnswer

@@ -1,0 +1,184 @@
+// The proleptic Gregorian calendar of the years 1 to 9999: a date's day number, and the date of a day number.
+// There is no loop: the years go by a table of the 400 year starts of a cycle, the months by a formula.
+ghost use mathlib.Core.Path.{_≡_};
+ghost use mathlib.Core.Bool.{true};
+ghost use Prim.Native.Nat.{_-_, _<_, _≤_};
+ghost use Rattle.format.specs.Walk.{sumFrom, place};
+ghost use Rattle.format.specs.Calendar.{leap, yearLength, isDay, dayNumber, dayIn, numberAsked, dayAsked};
+ghost use Rattle.calendar.specs.Meaning.{dayFrom, numbered, dated};
+ghost use Rattle.calendar.specs.Steps.{placeFrom, Guessed};
+
+mod months;
+mod year_starts;
+
+// Any three numbers: whoever writes a date refuses the wrong ones.
+pub struct Date {
+    pub year: u32,
+    pub month: u32,
+    pub day: u32,
+}
+
+// A date's day number: 0 at 0001-01-01.
+pub enum Numbered {
+    Day(u32),
+    NoSuchDay,
+}
+
+// The date of a day number.
+pub enum Dated {
+    Date(Date),
+    NoSuchNumber,
+}
+
+// What lies before a day: whole years, and days of its own year.
+struct Elapsed {
+    years: u32,
+    days: u32,
+}
+
+// The leap years repeat after 400 years: so the table has 400 entries.
+const CYCLE_YEARS: u32 = 400;
+
+const CYCLE_DAYS: u32 = 146_097;
+
+impl Date {
+    pub const LAST_YEAR: u32 = 9_999;
+    // The day number of 9999-12-31.
+    pub const LAST_NUMBER: u32 = 3_652_058;
+
+    pub fn new(year: u32, month: u32, day: u32) -> Date
+        ensures { λ r. ⌜ r ≡ record { year = year; month = month; day = day } ⌝ }
+    {
+        Date { year, month, day }
+    }
+
+    // Whether there is such a day in the years 1 to 9999.
+    pub fn in_range(self) -> bool
+        ensures { λ r. ⌜ r ≡ isDay (dayFrom self) ⌝ }
+    {
+        let year = self.year;
+        let month = self.month;
+        let day = self.day;
+        if year < 1 {
+            return false;
+        }
+        if Date::LAST_YEAR < year {
+            return false;
+        }
+        if month < 1 {
+            return false;
+        }
+        if day < 1 {
+            return false;
+        }
+        day <= months::month_length(is_leap(year), month)
+    }
+}
+
+// Every fourth year, but of the centuries only every fourth.
+fn is_leap(year: u32) -> bool
+    ensures { λ r. ⌜ r ≡ leap year ⌝ }
+{
+    if year % 100 == 0 {
+        return year % 400 == 0;
+    }
+    year % 4 == 0
+}
+
+// `year` is counted from 1, as in a date; `yearLength` counts from 0.
+fn year_length(year: u32) -> u32
+    requires { ⌜ 1 ≤ year ⌝ }
+    ensures { λ r. ⌜ r ≡ yearLength (year - 1) ⌝ }
+{
+    if is_leap(year) { 366 } else { 365 }
+}
+
+// Whole cycles, and the table's entry for the years of the last one.
+fn days_before_years(years: u32) -> u32
+    requires { ⌜ years < 9999 ⌝ }
+    ensures { λ r. ⌜ r ≡ sumFrom yearLength 0 years ⌝ }
+{
+    years / CYCLE_YEARS * CYCLE_DAYS + year_starts::entry(years % CYCLE_YEARS)
+}
+
+// The day number, where there is such a day.
+fn number_of(date: Date) -> u32
+    requires { ⌜ isDay (dayFrom date) ≡ true ⌝ }
+    ensures { λ r. ⌜ r ≡ dayNumber (dayFrom date) ⌝ }
+{
+    let year = date.year;
+    let month = date.month;
+    let day = date.day;
+    days_before_years(year - 1) + months::days_before_month(is_leap(year), month) + (day - 1)
+}
+
+// One test, of the whole date, and then sums only.
+pub fn day_number(date: Date) -> Numbered
+    ensures { λ r. ⌜ numbered r ≡ numberAsked (dayFrom date) ⌝ }
+{
+    if date.in_range() {
+        return Numbered::Day(number_of(date));
+    }
+    Numbered::NoSuchDay
+}
+
+// The years of the cycle before its day `rest`, or one too many, since no year is shorter than 365 days.
+// The cycle's last 97 days would give 400, and are in its last year.
+fn guess(rest: u32) -> u32
+    requires { ⌜ rest < 146097 ⌝ }
+    ensures { λ r. ⌜ Guessed rest r ⌝ }
+{
+    let years = rest / 365;
+    if years < CYCLE_YEARS {
+        years
+    } else {
+        CYCLE_YEARS - 1
+    }
+}
+
+// Where the guess is one too many, the year before starts by its own length earlier: so the table is read once.
+fn elapsed_at(number: u32) -> Elapsed
+    requires { ⌜ number < 3652059 ⌝ }
+    ensures { λ r. ⌜ placeFrom r ≡ place yearLength 9998 0 number ⌝ }
+{
+    let rest = number % CYCLE_DAYS;
+    let guessed = guess(rest);
+    let years = number / CYCLE_DAYS * CYCLE_YEARS + guessed;
+    let start = year_starts::entry(guessed);
+    if start <= rest {
+        return Elapsed {
+            years,
+            days: rest - start,
+        };
+    }
+    Elapsed {
+        years: years - 1,
+        days: rest + year_length(years) - start,
+    }
+}
+
+// The date of the day that comes after that many years and days.
+fn date_after(past: Elapsed) -> Date
+    requires { ⌜ (past .years < 9999) × (past .days < yearLength (past .years)) ⌝ }
+    ensures { λ r. ⌜ dayFrom r ≡ dayIn (placeFrom past) ⌝ }
+{
+    let days = past.days;
+    let year = past.years + 1;
+    let leap = is_leap(year);
+    let month = months::month_of(leap, days);
+    Date {
+        year,
+        month,
+        day: days - months::days_before_month(leap, month) + 1,
+    }
+}
+
+// The year and its day first, then the month and its day.
+pub fn date_of(number: u32) -> Dated
+    ensures { λ r. ⌜ dated r ≡ dayAsked number ⌝ }
+{
+    if Date::LAST_NUMBER < number {
+        return Dated::NoSuchNumber;
+    }
+    Dated::Date(date_after(elapsed_at(number)))
+}

@@ -1,0 +1,47 @@
+// The months of a year, by formulas: no table is built and nothing is counted. Months are numbered from 1, days of a year from 0.
+ghost use mathlib.Core.Path.{_≡_};
+ghost use Prim.Native.Nat.{_+_, _-_, _<_, _≤_};
+ghost use Rattle.format.specs.Words.{pick};
+ghost use Rattle.format.specs.Walk.{sumFrom, place};
+ghost use Rattle.format.specs.Calendar.{monthLength};
+
+// The formulas are those of a February of 30 days. How many it lacks counts from March on: not `early`.
+fn lacking(leap: bool, early: bool) -> u32
+    ensures { λ r. ⌜ r ≡ pick early 0 (pick leap 1 2) ⌝ }
+{
+    if early {
+        return 0;
+    }
+    if leap { 1 } else { 2 }
+}
+
+// 31 and 30 days in turn, but July and August have 31 both. 0 past December: no day is in such a month.
+pub fn month_length(leap: bool, month: u32) -> u32
+    requires { ⌜ 1 ≤ month ⌝ }
+    ensures { λ r. ⌜ r ≡ monthLength leap (month - 1) ⌝ }
+{
+    if 12 < month {
+        return 0;
+    }
+    if month == 2 {
+        return 30 - lacking(leap, false);
+    }
+    30 + (month + month / 8) % 2
+}
+
+// The days of the year before a month: with that February a month has 367/12 days, and the starts are rounded down.
+pub fn days_before_month(leap: bool, month: u32) -> u32
+    requires { ⌜ (1 ≤ month) × (month ≤ 12) ⌝ }
+    ensures { λ r. ⌜ r ≡ sumFrom (monthLength leap) 0 (month - 1) ⌝ }
+{
+    (367 * month - 362) / 12 - lacking(leap, month < 3)
+}
+
+// The month of a day of the year: the same line, read the other way.
+pub fn month_of(leap: bool, day: u32) -> u32
+    requires { ⌜ day < sumFrom (monthLength leap) 0 12 ⌝ }
+    ensures { λ r. ⌜ r ≡ place (monthLength leap) 11 0 day .index + 1 ⌝ }
+{
+    let march = days_before_month(leap, 3);
+    (12 * (day + lacking(leap, day < march)) + 373) / 367
+}

@@ -1,0 +1,130 @@
+// Numbers in octets, big-endian: unsigned and two's complement, put into a lent buffer and taken from a slice; the fewest octets of a BER integer.
+// For the crates of this library: callers prove what is required.
+ghost use mathlib.Core.Path.{_≡_};
+ghost use Prim.Native.Nat.{_+_, _^_, _≤_, _<_};
+ghost use lib.Signed.{mag};
+ghost use lib.ListN.{length, take, drop};
+ghost use lib.Seq.{sets};
+ghost use Rattle.format.specs.Floor.{divF, modF};
+ghost use Rattle.format.specs.Octets.{unsignedOctets, unsignedAt, signedOctets, push, signFrom, signedOf, fewestOctets, tight};
+
+// ---- the fewest octets
+
+// n of n, and of -(n + 1): the number without its sign bits.
+fn magnitude(x: i64) -> u64
+    ensures { λ r. ⌜ r ≡ mag x ⌝ }
+{
+    if x < 0 { !x as u64 } else { x as u64 }
+}
+
+// 01: the octet count from the leading sign bits: leading-zero count of the 64-bit number, or of its complement when negative.
+pub fn fewest_octets(x: i64) -> usize
+    ensures { λ r. ⌜ r ≡ fewestOctets x ⌝ }
+{
+    let zeros = u64::leading_zeros(magnitude(x));
+    ((64 - zeros) / 8 + 1) as usize
+}
+
+// ---- put into a buffer, from the last octet to the first
+
+fn last_octet(v: i64) -> u8
+    ensures { λ r. ⌜ r ≡ modF v 256 ⌝ }
+{
+    (v & 0xff) as u8
+}
+
+// The octet is cleared first: the division is exact, and so never goes toward zero.
+fn without_last(v: i64) -> i64
+    ensures { λ r. ⌜ r ≡ divF v 256 ⌝ }
+{
+    (v & !0xff) / 256
+}
+
+// The last `n` octets of `x` in two's complement, at `at`: more of them than `x` needs repeat its sign.
+pub fn put_signed(buf: &mut [u8], at: usize, n: usize, x: i64)
+    requires { ⌜ at + n ≤ length (now buf) ⌝ }
+    ensures { λ _. ⌜ now (buf .exit) ≡ sets (now (buf .entry)) at (signedOctets n x) ⌝ }
+{
+    let mut v = x;
+    let mut i = n;
+    while 0 < i {
+        i -= 1;
+        buf[at + i] = last_octet(v);
+        v = without_last(v);
+    }
+}
+
+// The last `n` octets of `x`, at `at`: more of them than `x` needs are zero.
+pub fn put_unsigned(buf: &mut [u8], at: usize, n: usize, x: u64)
+    requires { ⌜ at + n ≤ length (now buf) ⌝ }
+    ensures { λ _. ⌜ now (buf .exit) ≡ sets (now (buf .entry)) at (unsignedOctets n x) ⌝ }
+{
+    let mut v = x;
+    let mut i = n;
+    while 0 < i {
+        i -= 1;
+        buf[at + i] = (v % 256) as u8;
+        v /= 256;
+    }
+}
+
+// ---- taken from a slice, from the first octet to the last
+
+// What stands before a first octet: its sign, in every bit.
+fn sign_from(b: u8) -> i64
+    ensures { λ r. ⌜ r ≡ signFrom b ⌝ }
+{
+    if b < 128 { 0 } else { -1 }
+}
+
+fn with_octet(v: i64, b: u8) -> i64
+    requires { ⌜ mag v < 2 ^ 55 ⌝ }
+    ensures { λ r. ⌜ r ≡ push v b ⌝ }
+{
+    v * 256 + (b as i64)
+}
+
+// The number of the `n` octets at `at`, in two's complement.
+pub fn take_signed(s: &[u8], at: usize, n: usize) -> i64
+    requires { ⌜ (at + n ≤ length (now s)) × (1 ≤ n) × (n ≤ 8) ⌝ }
+    ensures { λ r. ⌜ r ≡ signedOf (take n (drop at (now (s .entry)))) ⌝ }
+{
+    let mut v = sign_from(s[at]);
+    let mut i = 0;
+    while i < n {
+        v = with_octet(v, s[at + i]);
+        i += 1;
+    }
+    v
+}
+
+// The number of the `n` octets at `at`, unsigned.
+pub fn take_unsigned(s: &[u8], at: usize, n: usize) -> u64
+    requires { ⌜ (at + n ≤ length (now s)) × (n ≤ 8) ⌝ }
+    ensures { λ r. ⌜ r ≡ unsignedAt (now (s .entry)) at n ⌝ }
+{
+    let mut v: u64 = 0;
+    let mut i = 0;
+    while i < n {
+        let octet = s[at + i] as u64;
+        v = v * 256 + octet;
+        i += 1;
+    }
+    v
+}
+
+// Whether the octets from `at` on have no redundant sign octet (X.690 8.3.2).
+pub fn is_tight(s: &[u8], at: usize) -> bool
+    requires { ⌜ at < length (now s) ⌝ }
+    ensures { λ r. ⌜ r ≡ tight (drop at (now (s .entry))) ⌝ }
+{
+    if at + 1 == s.len() {
+        return true;
+    }
+    let first = s[at];
+    if s[at + 1] < 128 {
+        first != 0
+    } else {
+        first != 255
+    }
+}

@@ -1,0 +1,173 @@
+-- No two different answers meet one promise: of a writer, of a reader, and of each constructor and small call. What an answer means can be
+-- undone, a clause for each case. Assumes nothing.
+use mathlib.Core.Path.{_≡_, refl, sym, _∙_, ap}
+use mathlib.Core.Bool.{Bool}
+use mathlib.Core.List.{List}
+use Prim.Native.Nat.{ℕ}
+use lib.IntN.{ℤ}
+use lib.Dec.{eqb}
+use Rattle.format.specs.Words.{pick, Outcome, accepted, refused}
+use Rattle.format.specs.Values as format
+use Rattle.format.specs.Promises.{OneAnswer}
+use Rattle.format.proofs.Promises.{equal-one, meaning-one}
+use Rattle.values.specs.declared.parts.Time.{Time}
+use Rattle.values.specs.declared.parts.Offset.{Offset}
+use Rattle.values.specs.declared.kinds.Kind.{Kind}
+use Rattle.values.specs.declared.kinds.Value.{Value}
+use Rattle.values.specs.declared.refusal.Refusal.{Refusal}
+use Rattle.values.specs.declared.refusal.Refusal.the-variants as R
+use Rattle.values.specs.declared.settings.Form.{Form}
+use Rattle.values.specs.declared.settings.Form.the-variants as F
+use Rattle.values.specs.declared.settings.Settings.{Settings}
+use Rattle.values.specs.declared.answers.Written.{Written}
+use Rattle.values.specs.declared.answers.Written.the-variants as W
+use Rattle.values.specs.declared.answers.Decoded.{Decoded}
+use Rattle.values.specs.declared.answers.Decoded.the-variants as D
+use Rattle.values.specs.declared.answers.Reading.{Reading}
+use Rattle.values.specs.declared.answers.Reading.the-variants as G
+use Rattle.values.specs.Meaning.{refusalNumber, formFrom, settingsFrom, kindFrom, valueFrom}
+use Rattle.values.specs.Answers.{writtenNumber, writtenCount, decoded, reading}
+use Rattle.values.specs.Promise.{Left, Writes, Reads}
+
+-- ---- meanings undone
+
+-- the numbers of no refusal go anywhere
+refusalOf : ℕ → Refusal
+refusalOf n =
+    pick (eqb n 1) R.Digits (pick (eqb n 2) R.Value (pick (eqb n 3) R.NoCompact (pick (eqb n 4) R.Buffer
+    (pick (eqb n 5) R.Length (pick (eqb n 6) R.Octet (pick (eqb n 7) R.Redundant R.Range))))))
+
+refusal-back : (r : Refusal) → refusalOf (refusalNumber r) ≡ r
+unfolding refusalOf
+refusal-back R.Digits = refl
+refusal-back R.Value = refl
+refusal-back R.NoCompact = refl
+refusal-back R.Buffer = refl
+refusal-back R.Length = refl
+refusal-back R.Octet = refl
+refusal-back R.Redundant = refl
+refusal-back R.Range = refl
+
+formOf : format.Form → Form
+formOf (format.text d) = F.Text d
+formOf format.compact = F.Compact
+formOf format.extended = F.Extended
+
+form-back : (f : Form) → formOf (formFrom f) ≡ f
+unfolding formOf
+form-back (F.Text d) = refl
+form-back F.Compact = refl
+form-back F.Extended = refl
+
+settingsOf : format.Settings → Settings
+settingsOf t = record { binary = t .binary; version = t .version; digits = t .digits }
+
+settings-back : (t : Settings) → settingsOf (settingsFrom t) ≡ t
+unfolding settingsOf
+settings-back t = refl
+
+-- a count is a writer's only where the number is 0
+writtenOf : ℕ → ℕ → Written
+writtenOf n k = pick (eqb n 0) (W.Octets k) (W.Refused (refusalOf n))
+
+written-back : (r : Written) → writtenOf (writtenNumber r) (writtenCount r) ≡ r
+unfolding writtenOf refusalOf
+written-back (W.Octets n) = refl
+written-back (W.Refused R.Digits) = refl
+written-back (W.Refused R.Value) = refl
+written-back (W.Refused R.NoCompact) = refl
+written-back (W.Refused R.Buffer) = refl
+written-back (W.Refused R.Length) = refl
+written-back (W.Refused R.Octet) = refl
+written-back (W.Refused R.Redundant) = refl
+written-back (W.Refused R.Range) = refl
+
+decodedOf : format.Kind → Form → format.Value → Decoded
+decodedOf format.Date f v = D.Date (record { value = record { year = v .date .year; month = v .date .month; day = v .date .day }; form = f })
+decodedOf format.DateTz f v =
+    D.DateTz (record { value = record { date = record { year = v .date .year; month = v .date .month; day = v .date .day }; offset = record { minutes = v .offset } }; form = f })
+decodedOf format.Time f v = D.Time (record { value = record { micros = v .micros }; form = f })
+decodedOf format.TimeTz f v = D.TimeTz (record { value = record { time = record { micros = v .micros }; offset = record { minutes = v .offset } }; form = f })
+decodedOf format.Datetime f v =
+    D.Datetime (record { value = record { date = record { year = v .date .year; month = v .date .month; day = v .date .day }; time = record { micros = v .micros } }; form = f })
+decodedOf format.DatetimeTz f v =
+    D.DatetimeTz (record {
+      value = record { date = record { year = v .date .year; month = v .date .month; day = v .date .day }; time = record { micros = v .micros }; offset = record { minutes = v .offset } };
+      form = f;
+    })
+
+readingOf : Outcome format.Answer → Reading
+readingOf (accepted a) = G.Stamp (decodedOf (a .kind) (formOf (a .form)) (a .value))
+readingOf (refused n) = G.Refused (refusalOf n)
+
+reading-back : (r : Reading) → readingOf (reading r) ≡ r
+unfolding readingOf decodedOf
+reading-back (G.Stamp (D.Date a)) = rw (form-back (a .form))
+reading-back (G.Stamp (D.DateTz a)) = rw (form-back (a .form))
+reading-back (G.Stamp (D.Time a)) = rw (form-back (a .form))
+reading-back (G.Stamp (D.TimeTz a)) = rw (form-back (a .form))
+reading-back (G.Stamp (D.Datetime a)) = rw (form-back (a .form))
+reading-back (G.Stamp (D.DatetimeTz a)) = rw (form-back (a .form))
+reading-back (G.Refused r) = rw (refusal-back r)
+
+-- ---- writers and readers, of all kinds
+
+-- number, count and buffer are settled
+pub one-left : (o : Outcome (List ℕ)) (lent : List ℕ) (n n′ k k′ : ℕ) (left left′ : List ℕ)
+    → Left o lent n k left → Left o lent n′ k′ left′ → (n ≡ n′) × (k ≡ k′) × (left ≡ left′)
+one-left o lent n n′ k k′ left left′ p q =
+    (p .number ∙ sym (q .number), p .count ∙ sym (q .count), p .buffer ∙ sym (q .buffer))
+
+pub one-writing : (o : Outcome (List ℕ)) (lent : List ℕ) (r r′ : Written) (left left′ : List ℕ)
+    → Writes o lent r left → Writes o lent r′ left′ → (r ≡ r′) × (left ≡ left′)
+one-writing o lent r r′ left left′ p q =
+    let s = one-left o lent _ _ _ _ left left′ p q in
+    (sym (written-back r) ∙ rw (s .0, s .1) (written-back r′), s .2)
+
+pub one-reading : (o : Outcome format.Answer) → OneAnswer (Reads o)
+one-reading = meaning-one reading readingOf reading-back
+
+-- ---- constructors and small calls
+
+pub one-time-new : (micros : ℕ) → OneAnswer (λ (r : Time). r ≡ record { micros = micros })
+one-time-new micros = equal-one (record { micros = micros })
+
+pub one-end-of-day : OneAnswer (λ (r : Time). r ≡ record { micros = format.endOfDay })
+one-end-of-day = equal-one (record { micros = format.endOfDay })
+
+pub one-is-end-of-day : (t : Time) → OneAnswer (λ (r : Bool). r ≡ eqb (t .micros) format.endOfDay)
+one-is-end-of-day t = equal-one (eqb (t .micros) format.endOfDay)
+
+pub one-time-in-range : (t : Time) → OneAnswer (λ (r : Bool). r ≡ format.timeInRange (t .micros))
+one-time-in-range t = equal-one (format.timeInRange (t .micros))
+
+pub one-offset-new : (minutes : ℤ) → OneAnswer (λ (r : Offset). r ≡ record { minutes = minutes })
+one-offset-new minutes = equal-one (record { minutes = minutes })
+
+pub one-offset-in-range : (f : Offset) → OneAnswer (λ (r : Bool). r ≡ format.offsetInRange (f .minutes))
+one-offset-in-range f = equal-one (format.offsetInRange (f .minutes))
+
+pub one-refusal-number : (f : Refusal) → OneAnswer (λ (r : ℕ). r ≡ refusalNumber f)
+one-refusal-number f = equal-one (refusalNumber f)
+
+-- `new`, `default` and `for_form`, each at what it promises
+pub one-settings : (t : format.Settings) → OneAnswer (λ (r : Settings). settingsFrom r ≡ t)
+one-settings = meaning-one settingsFrom settingsOf settings-back
+
+pub one-settings-in-range : (t : Settings) → OneAnswer (λ (r : Bool). r ≡ format.digitsInRange (t .digits))
+one-settings-in-range t = equal-one (format.digitsInRange (t .digits))
+
+pub one-form : (f : format.Form) → OneAnswer (λ (r : Form). formFrom r ≡ f)
+one-form = meaning-one formFrom formOf form-back
+
+pub one-dated : (k : Kind) → OneAnswer (λ (r : Bool). r ≡ format.dated (kindFrom k))
+one-dated k = equal-one (format.dated (kindFrom k))
+
+pub one-timed : (k : Kind) → OneAnswer (λ (r : Bool). r ≡ format.timed (kindFrom k))
+one-timed k = equal-one (format.timed (kindFrom k))
+
+pub one-zoned : (k : Kind) → OneAnswer (λ (r : Bool). r ≡ format.zoned (kindFrom k))
+one-zoned k = equal-one (format.zoned (kindFrom k))
+
+pub one-value-in-range : (k : Kind) (v : Value) → OneAnswer (λ (r : Bool). r ≡ format.inRange (kindFrom k) (valueFrom v))
+one-value-in-range k v = equal-one (format.inRange (kindFrom k) (valueFrom v))

@@ -1,0 +1,20 @@
+-- `date_fits` meets its contract: asked only where the kind has the part. Assumes nothing.
+use mathlib.Core.Path.{sym, _∙_}
+use borrow.Author.Needs.{needs}
+use Rattle.values.proofs.kinds.date_fits.Statement.{statement}
+use Rattle.values.proofs.kinds.date_fits.Tie as tie
+
+dated-requires : tie.Need-dated-requires
+dated-requires c κs = search needs
+
+in-range-requires : tie.Need-in-range-requires
+in-range-requires c κs = search needs
+
+returns : tie.Need-returns
+returns c = rw (sym (c .before .before .dated .ensures) ∙ c .before .if1 .taken) (c .in-range .ensures)
+
+returns-2 : tie.Need-returns-2
+returns-2 c = search needs
+
+pub date-fits-spec : {M : Type 1} → statement M
+date-fits-spec = tie.close (tie.spec dated-requires in-range-requires returns returns-2)

@@ -1,0 +1,3 @@
+pub mod Meaning
+pub mod Answers
+pub mod Promise

@@ -1,0 +1,62 @@
+// What writers and readers answer.
+use crate::DateTz;
+use crate::Datetime;
+use crate::DatetimeTz;
+use crate::Form;
+use crate::Refusal;
+use crate::Time;
+use crate::TimeTz;
+use calendar::Date;
+
+// What a writer answers: how many octets it wrote, or why none.
+pub enum Written {
+    Octets(usize),
+    Refused(Refusal),
+}
+
+// What was read, of each kind: the value, and the form in which it stood.
+pub struct DateAnswer {
+    pub value: Date,
+    pub form: Form,
+}
+
+pub struct DateTzAnswer {
+    pub value: DateTz,
+    pub form: Form,
+}
+
+pub struct TimeAnswer {
+    pub value: Time,
+    pub form: Form,
+}
+
+pub struct TimeTzAnswer {
+    pub value: TimeTz,
+    pub form: Form,
+}
+
+pub struct DatetimeAnswer {
+    pub value: Datetime,
+    pub form: Form,
+}
+
+pub struct DatetimeTzAnswer {
+    pub value: DatetimeTz,
+    pub form: Form,
+}
+
+// A decoded stamp, under its kind.
+pub enum Decoded {
+    Date(DateAnswer),
+    DateTz(DateTzAnswer),
+    Time(TimeAnswer),
+    TimeTz(TimeTzAnswer),
+    Datetime(DatetimeAnswer),
+    DatetimeTz(DatetimeTzAnswer),
+}
+
+// What a reader answers: the stamp, or why there is none.
+pub enum Reading {
+    Stamp(Decoded),
+    Refused(Refusal),
+}
