@@ -1,12 +1,12 @@
--- No two different answers meet one promise, for each public call. What an answer means can be undone. Assumes nothing.
+-- No two different answers meet the promise that a public call's contract cites (specs/Calls). What an answer means can be undone. Assumes nothing.
 use mathlib.Core.Path.{_≡_, refl}
-use mathlib.Core.Bool.{Bool}
 use Prim.Native.Nat.{ℕ}
 use Rattle.format.specs.Words.{Outcome, accepted, refused}
-use Rattle.format.specs.Calendar.{Day, isDay, numberAsked, dayAsked}
+use Rattle.format.specs.Calendar.{Day}
 use Rattle.format.specs.Promises.{OneAnswer}
 use Rattle.format.proofs.Promises.{equal-one, meaning-one}
-use Rattle.calendar.specs.Meaning.{dayFrom, numbered, dated}
+use Rattle.calendar.specs.Meaning.{numbered, dated}
+use Rattle.calendar.specs.Calls.{DateNew, DateInRange, DayNumber, DateOf}
 use Rattle.calendar.specs.declared.Date.{Date}
 use Rattle.calendar.specs.declared.Numbered.{Numbered}
 use Rattle.calendar.specs.declared.Numbered.the-variants as N
@@ -31,14 +31,14 @@ unfolding datedOf
 dated-back (D.Date d) = refl
 dated-back D.NoSuchNumber = refl
 
-pub one-new : (year month day : ℕ) → OneAnswer (λ (r : Date). r ≡ record { year = year; month = month; day = day })
-one-new year month day = equal-one (record { year = year; month = month; day = day })
+pub one-new : (year month day : ℕ) → OneAnswer (DateNew year month day)
+one-new year month day = equal-one _
 
-pub one-in-range : (d : Date) → OneAnswer (λ (r : Bool). r ≡ isDay (dayFrom d))
-one-in-range d = equal-one (isDay (dayFrom d))
+pub one-in-range : (d : Date) → OneAnswer (DateInRange d)
+one-in-range d = equal-one _
 
-pub one-day-number : (d : Date) → OneAnswer (λ (r : Numbered). numbered r ≡ numberAsked (dayFrom d))
-one-day-number d = meaning-one numbered numberedOf numbered-back (numberAsked (dayFrom d))
+pub one-day-number : (d : Date) → OneAnswer (DayNumber d)
+one-day-number d = meaning-one numbered numberedOf numbered-back _
 
-pub one-date-of : (n : ℕ) → OneAnswer (λ (r : Dated). dated r ≡ dayAsked n)
-one-date-of n = meaning-one dated datedOf dated-back (dayAsked n)
+pub one-date-of : (n : ℕ) → OneAnswer (DateOf n)
+one-date-of n = meaning-one dated datedOf dated-back _

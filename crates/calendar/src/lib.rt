@@ -4,9 +4,10 @@ ghost use mathlib.Core.Path.{_≡_};
 ghost use mathlib.Core.Bool.{true};
 ghost use Prim.Native.Nat.{_-_, _<_, _≤_};
 ghost use Rattle.format.specs.Walk.{sumFrom, place};
-ghost use Rattle.format.specs.Calendar.{leap, yearLength, isDay, dayNumber, dayIn, numberAsked, dayAsked};
-ghost use Rattle.calendar.specs.Meaning.{dayFrom, numbered, dated};
+ghost use Rattle.format.specs.Calendar.{leap, yearLength, isDay, dayNumber, dayIn};
+ghost use Rattle.calendar.specs.Meaning.{dayFrom};
 ghost use Rattle.calendar.specs.Steps.{placeFrom, Guessed};
+ghost use Rattle.calendar.specs.Calls.{DateNew, DateInRange, DayNumber, DateOf};
 
 mod months;
 mod year_starts;
@@ -47,14 +48,14 @@ impl Date {
     pub const LAST_NUMBER: u32 = 3_652_058;
 
     pub fn new(year: u32, month: u32, day: u32) -> Date
-        ensures { λ r. ⌜ r ≡ record { year = year; month = month; day = day } ⌝ }
+        ensures { λ r. ⌜ DateNew year month day r ⌝ }
     {
         Date { year, month, day }
     }
 
     // Whether there is such a day in the years 1 to 9999.
     pub fn in_range(self) -> bool
-        ensures { λ r. ⌜ r ≡ isDay (dayFrom self) ⌝ }
+        ensures { λ r. ⌜ DateInRange self r ⌝ }
     {
         let year = self.year;
         let month = self.month;
@@ -114,7 +115,7 @@ fn number_of(date: Date) -> u32
 
 // One test, of the whole date, and then sums only.
 pub fn day_number(date: Date) -> Numbered
-    ensures { λ r. ⌜ numbered r ≡ numberAsked (dayFrom date) ⌝ }
+    ensures { λ r. ⌜ DayNumber date r ⌝ }
 {
     if date.in_range() {
         return Numbered::Day(number_of(date));
@@ -175,7 +176,7 @@ fn date_after(past: Elapsed) -> Date
 
 // The year and its day first, then the month and its day.
 pub fn date_of(number: u32) -> Dated
-    ensures { λ r. ⌜ dated r ≡ dayAsked number ⌝ }
+    ensures { λ r. ⌜ DateOf number r ⌝ }
 {
     if Date::LAST_NUMBER < number {
         return Dated::NoSuchNumber;

@@ -16,7 +16,7 @@ fn lacking(leap: bool, early: bool) -> u32
 }
 
 // 31 and 30 days in turn, but July and August have 31 both. 0 past December: no day is in such a month.
-pub fn month_length(leap: bool, month: u32) -> u32
+pub(crate) fn month_length(leap: bool, month: u32) -> u32
     requires { ⌜ 1 ≤ month ⌝ }
     ensures { λ r. ⌜ r ≡ monthLength leap (month - 1) ⌝ }
 {
@@ -30,7 +30,7 @@ pub fn month_length(leap: bool, month: u32) -> u32
 }
 
 // The days of the year before a month: with that February a month has 367/12 days, and the starts are rounded down.
-pub fn days_before_month(leap: bool, month: u32) -> u32
+pub(crate) fn days_before_month(leap: bool, month: u32) -> u32
     requires { ⌜ (1 ≤ month) × (month ≤ 12) ⌝ }
     ensures { λ r. ⌜ r ≡ sumFrom (monthLength leap) 0 (month - 1) ⌝ }
 {
@@ -38,7 +38,7 @@ pub fn days_before_month(leap: bool, month: u32) -> u32
 }
 
 // The month of a day of the year: the same line, read the other way.
-pub fn month_of(leap: bool, day: u32) -> u32
+pub(crate) fn month_of(leap: bool, day: u32) -> u32
     requires { ⌜ day < sumFrom (monthLength leap) 0 12 ⌝ }
     ensures { λ r. ⌜ r ≡ place (monthLength leap) 11 0 day .index + 1 ⌝ }
 {

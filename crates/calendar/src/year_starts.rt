@@ -407,7 +407,7 @@ const YEAR_STARTS: [u32; 400] = [
     145731,
 ];
 
-pub fn entry(i: u32) -> u32
+pub(crate) fn entry(i: u32) -> u32
     requires { ⌜ i < 400 ⌝ }
     ensures { λ r. ⌜ r ≡ yearStart i ⌝ }
 {

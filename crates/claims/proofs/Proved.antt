@@ -1,12 +1,17 @@
 -- A proof of each claim, from the laws of `format`. Assumes nothing.
-use mathlib.Core.Path.{_≡_, refl, sym, _∙_}
+use mathlib.Core.Path.{_≡_, refl, sym, _∙_, ap}
 use mathlib.Core.Bool.{true}
+use mathlib.Core.List.{[]}
 use Prim.Native.Nat.{ℕ}
 use native.Mathlib.Omega.{arith}
-use Rattle.format.specs.Values.{text, compact}
+use Rattle.format.specs.Values.{Kind, Date, DateTz, Time, TimeTz, Datetime, DatetimeTz, text, compact, Answer}
 use Rattle.format.specs.Choice.{formFor, settingsFor}
-use Rattle.format.specs.Writing.{imageIn, hasForm}
-use Rattle.format.specs.Bench.{Fifteen, TextLengths, NamedDays}
+use Rattle.format.specs.Words.{refused}
+use Rattle.format.specs.CompactReading.{shortest, readCompact}
+use Rattle.format.specs.Writing.{imageIn, hasForm, encode}
+use Rattle.format.specs.Reading.{formIn, readIn, read}
+use Rattle.format.specs.EitherOr.{kindIn, readEither}
+use Rattle.format.proofs.Tight.{tight-fewest}
 use Rattle.format.proofs.Years.{years-entry}
 use Rattle.format.proofs.Dates.{number-small, date-number, number-date}
 use Rattle.format.proofs.Choosing.{chosen-has, settings-for, settings-permitted}
@@ -15,19 +20,23 @@ use Rattle.format.proofs.Either.{own-kind, exception-compact, exception-text}
 use Rattle.format.proofs.Images.{image-octets, image-size, write-numbers, read-numbers}
 use Rattle.format.proofs.Bench as worked
 use Rattle.claims.specs.Claims.{AcceptedExactly, ReadsWhatWasWritten, WritesWhatWasRead, OwnKind, CompactOffsetZero, TextWithoutFraction, Images}
-use Rattle.claims.specs.Refusals.{RefusalNumbers, RefusedHasNoValue}
+use Rattle.claims.specs.Refusals.{FirstThatApplies, BufferLast, ZeroOctets, TightIsFewest, RefusalNumbers, RefusedHasNoValue}
 use Rattle.claims.specs.Calendar.{NumbersAndDates, YearStarts}
+use Rattle.claims.specs.Examples.{TheFifteen, TheLengths, TheDays, TheSlips}
 
 -- ---- 01's own examples
 
-pub fifteen : Fifteen
-fifteen = worked.fifteen
+pub the-fifteen : TheFifteen
+the-fifteen = worked.fifteen
 
-pub text-lengths : TextLengths
-text-lengths = worked.text-lengths
+pub the-lengths : TheLengths
+the-lengths = worked.text-lengths
 
-pub named-days : NamedDays
-named-days = worked.named-days
+pub the-days : TheDays
+the-days = worked.named-days
+
+pub the-slips : TheSlips
+the-slips = (worked.slips, worked.slips-kept, worked.slips-days)
 
 -- ---- there and back
 
@@ -44,14 +53,15 @@ reads-what-was-written = written-reads
 pub writes-what-was-read : WritesWhatWasRead
 writes-what-was-read k s a o e =
     let r = was-read k s a o e .from in
-    (r .image, settings-for k (a .form) (a .value) (r .kind) .1, read-writes k s a o e)
+    (ap (λ (x : Answer). x .kind) (was-read k s a o e .answer), r .range, r .image, settings-for k (a .form) (a .value) (r .kind) .1, read-writes k s a o e)
 
 -- ---- either-or
 
 pub own : OwnKind
 own k t v s e x =
     let w = written k t v s e in
-    rw (← w .image) (own-kind k (formFor k t v) v (w .range) (chosen-has k t v (w .digits)) (w .has) x) ∙ sym (written-reads k t v s e)
+    let o = rw (w .image) at (own-kind k (formFor k t v) v (w .range) (chosen-has k t v (w .digits)) (w .has) x) in
+    (o ∙ sym (written-reads k t v s e), o)
 
 pub compact-offset-zero : CompactOffsetZero
 unfolding imageIn hasForm
@@ -76,8 +86,31 @@ images k t v s e =
     let z = image-size k (formFor k t v) v (w .range) (chosen-has k t v (w .digits)) (w .has) in
     (rw (w .image) at (image-octets k (formFor k t v) v), rw (w .image) at (z .0), rw (w .image) at (z .1))
 
+pub first-that-applies : FirstThatApplies
+unfolding encode
+first-that-applies k t v = (λ a. rw a, λ a b. rw (a, b), λ a b d. rw (a, b, d), λ a b d. rw (a, b, d))
+
+pub buffer-last : BufferLast
+buffer-last xs room = (λ e. rw e, λ e. rw e)
+
+pub zero-octets : ZeroOctets
+unfolding readEither kindIn
+zero-octets = (none, λ f. none (kindIn f []))
+  where
+    none : (k : Kind) → read k [] ≡ refused 5
+    none Date = unfold read formIn readIn readCompact shortest in refl
+    none DateTz = unfold read formIn readIn readCompact shortest in refl
+    none Time = unfold read formIn readIn readCompact shortest in refl
+    none TimeTz = unfold read formIn readIn readCompact shortest in refl
+    none Datetime = unfold read formIn readIn readCompact shortest in refl
+    none DatetimeTz = unfold read formIn readIn readCompact shortest in refl
+
+pub tight-is-fewest : TightIsFewest
+tight-is-fewest = tight-fewest
+
 pub refusal-numbers : RefusalNumbers
-refusal-numbers = (write-numbers, read-numbers)
+unfolding readEither
+refusal-numbers = (write-numbers, read-numbers, λ f s n e. read-numbers (kindIn f s) s n e)
 
 pub refused-has-no-value : RefusedHasNoValue
 refused-has-no-value k s n e t v w =

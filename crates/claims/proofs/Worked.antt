@@ -7,8 +7,8 @@ use Rattle.format.specs.Values.{timeInRange, offsetInRange, inRange}
 use Rattle.format.specs.Choice.{formFor}
 use Rattle.format.specs.Digits.{areDigits, numberAt}
 use Rattle.format.specs.Fields.{width, fitsAt, saysAt, widths, fit, says}
-use Rattle.format.specs.Text.{layout, textLength}
-use Rattle.format.specs.TextReading.{digitsFrom, digitsFound, minusZero, clockInRange, numbersInRange, readFields, readText}
+use Rattle.format.specs.Text.{layout, textLength, fractionUnit}
+use Rattle.format.specs.TextReading.{digitsFrom, digitsFound, minusZero, clockInRange, numbersInRange, textValue, readFields, readText}
 use Rattle.format.specs.Compact.{perDay, start, count, number, greatest, carried, hasCompact, paddedTo, numberOctets, compactImage}
 use Rattle.format.specs.Extended.{headBits}
 use Rattle.format.specs.Writing.{imageIn, hasForm, encode}
@@ -20,7 +20,7 @@ unfolding sumFrom place leap yearLength monthLength isDay dayNumber timeInRange 
 refused-writes = refl
 
 refused-reads : reads ≡ readsCome
-unfolding leap monthLength isDay areDigits numberAt width fitsAt saysAt widths fit says layout textLength digitsFrom digitsFound minusZero clockInRange numbersInRange readFields headBits firstBits formIn readText readIn read reads readsCome
+unfolding leap monthLength isDay areDigits numberAt width fitsAt saysAt widths fit says layout textLength digitsFrom digitsFound minusZero clockInRange numbersInRange textValue fractionUnit readFields headBits firstBits formIn readText readIn read reads readsCome
 refused-reads = refl
 
 pub each-refusal : EachRefusal

@@ -1,7 +1,19 @@
 -- What is claimed of document 01's rules, to be read by itself: each claim stands under its sentence of the users' demands.
--- `proofs/Proved.antt` has a proof of each. The rules are `encode`, `imageIn` and `read` of the crate `format`, and nothing else.
+-- `proofs/Proved.antt` has a proof of each. The rules are those of the crate `format`: what a writer writes (`encode`, `imageIn`, `formFor`,
+-- `settingsFor`), what a reader answers (`read`, `readEither`), what a form keeps (`cut`), what is in range and permitted (`inRange`, `permitted`),
+-- and which kinds and values the two exceptions are about (`familyOf`, `plainOf`, `excepted`).
 --
--- k is one of the six kinds, v any value, t any settings, s any octets. `A ↔ B` is A exactly when B, `(a : T) × ..` is 'there is an a with ..'.
+-- The third demand: "For each kind, octets are accepted exactly when some value in range, under some permitted settings, is written so. What is
+-- read is that value, cut to what its form keeps (compact date-time: the end of a day reads as the start of the next). Writing it again in the form
+-- and digits found gives the same octets. Where plain and zoned are both possible, what was written reads back as its own kind, but for two exceptions:
+-- a compact time or date-time with offset zero reads as plain, with the local reading that its own reader gives; a zoned text time or date-time
+-- without fraction is refused."
+--
+--   (x : T) → ..     for every x of T, ..; `A → B` between statements is 'if A then B'
+--   (x : T) × ..     there is an x of T with ..; `A × B` between statements is 'A and B'
+--   A ↔ B            A exactly when B; `a ≡ b` is 'a is b', and `⊥` what never holds
+--
+-- Here k is one of the six kinds, v any value, t any settings, s any octets.
 use mathlib.Core.Path.{_≡_}
 use mathlib.Core.Logic.{_↔_}
 use mathlib.Core.Bool.{true, false}
@@ -35,12 +47,14 @@ ReadsWhatWasWritten =
     (k : Kind) (t : Settings) (v : Value) (s : List ℕ) → encode k t v ≡ accepted s
     → read k s ≡ accepted (said k (formFor k t v) (cut k (formFor k t v) v))
 
--- Writing it again in the form and digits found gives the same octets: the image in that form, and what a writer gives under the settings
--- for that form.
+-- Writing it again in the form and digits found gives the same octets: what was read is of that kind and in range, its image in that form are
+-- these octets, and a writer gives them under the settings for that form.
 abbrev pub WritesWhatWasRead : Type 0
 WritesWhatWasRead =
     (k : Kind) (s : List ℕ) (a : Answer) → Octets s → read k s ≡ accepted a
-    → (imageIn k (a .form) (a .value) ≡ s)
+    → (a .kind ≡ k)
+    × (inRange k (a .value) ≡ true)
+    × (imageIn k (a .form) (a .value) ≡ s)
     × (formFor k (settingsFor (a .form)) (a .value) ≡ a .form)
     × (encode k (settingsFor (a .form)) (a .value) ≡ accepted s)
 
@@ -48,7 +62,8 @@ WritesWhatWasRead =
 abbrev pub OwnKind : Type 0
 OwnKind =
     (k : Kind) (t : Settings) (v : Value) (s : List ℕ) → encode k t v ≡ accepted s → excepted k (formFor k t v) v ≡ false
-    → readEither (familyOf k) s ≡ read k s
+    → (readEither (familyOf k) s ≡ read k s)
+    × (readEither (familyOf k) s ≡ accepted (said k (formFor k t v) (cut k (formFor k t v) v)))
 
 -- a compact time or date-time with offset zero reads as plain, with the local reading that its own reader gives;
 abbrev pub CompactOffsetZero : Type 0

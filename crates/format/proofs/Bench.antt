@@ -34,7 +34,7 @@ named-days = (refl, refl, refl)
 
 pub slips : Slips
 unfolding unsignedOctets unsignedAt signedOctets more signedOf firstFrom fewestOctets sumFrom leap yearLength monthLength isDay dayNumber timeInRange offsetInRange inRange formFor settingsFor areDigits numberAt digitsOf width put fitsAt saysAt widths puts fit says layout textLength fractionUnit textNumbers textImage digitsFrom digitsFound minusZero clockInRange numbersInRange textValue readFields readText perDay start count number greatest carried hasCompact paddedTo numberOctets compactImage shortest longestPlain carriedIn numberInRange usual compactValue readNumber readCompact headBits dayWidth offsetFrom extendedValue readExtended imageIn hasForm encode firstBits formIn readIn read
-slips = (refl, refl, refl, refl, refl, refl, refl, refl, refl, refl)
+slips = (refl, refl, refl, refl, refl, refl, refl, refl, refl, refl, refl)
 
 pub slips-kept : SlipsKept
 unfolding sumFrom place leap yearLength monthLength dayNumber dayOf fractionUnit own down cut excepted

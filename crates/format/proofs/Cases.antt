@@ -6,7 +6,7 @@ use Prim.Native.Nat.{ℕ, _<_, _≤_}
 use native.Mathlib.Omega.{arith}
 use lib.Dec.{ltb, eqb}
 use borrow.Author.Tests.{ltb-true, ltb-false, eqb-true, eqb-false}
-use Rattle.format.specs.Words.{pick, both, ifAny, Outcome, accepted, unless}
+use Rattle.format.specs.Words.{pick, both, ifAny, Outcome, accepted, refused, unless}
 
 pub cases : (b : Bool) → (b ≡ true) ⊎ (b ≡ false)
 cases true = inl refl
@@ -56,6 +56,11 @@ unpicked false x y z n e = refl
 pub passed : {A : Type 0} (b : Bool) (n : ℕ) (o : Outcome A) (a : A) → unless b n o ≡ accepted a → (b ≡ true) × (o ≡ accepted a)
 passed true n o a e = (refl, e)
 passed false n o a e = let z : _≡_ {A = ℕ} 0 1 = cc in absurd (omega arith)
+
+-- one that was refused at its only test failed it
+pub failed : {A : Type 0} (b : Bool) (n m : ℕ) (a : A) → unless b n (accepted a) ≡ refused m → b ≡ false
+failed true n m a e = let z : _≡_ {A = ℕ} 0 1 = cc in absurd (omega arith)
+failed false n m a e = refl
 
 pub same : {A : Type 0} {x y : A} → accepted x ≡ accepted y → x ≡ y
 same p = cc

@@ -19,5 +19,6 @@ pub mod Extended
 pub mod Compact
 pub mod Choosing
 pub mod Round
+pub mod Kept
 pub mod Either
 pub mod Images

@@ -19,6 +19,17 @@ sets-last l i (x ∷ xs) d =
     let e : suc i + length xs ≡ i + suc (length xs) = omega arith in
     sets-last (set l i x) (suc i) xs d ∙ rw (e, set-comm l i (i + suc (length xs)) x d (omega arith))
 
+-- two runs of stores, one behind the other, are one
+pub sets-append : (l : List ℕ) (i : ℕ) (xs ys : List ℕ) → sets l i (xs ++ ys) ≡ sets (sets l i xs) (i + length xs) ys
+sets-append l i [] ys = rw add-zero
+sets-append l i (x ∷ xs) ys =
+    let e : suc i + length xs ≡ i + suc (length xs) = omega arith in
+    rw e at (sets-append (set l i x) (suc i) xs ys)
+
+-- as code stores them: the second run at a place that it computed
+pub sets-then : (l : List ℕ) (i j : ℕ) (xs ys zs : List ℕ) → i + length xs ≡ j → xs ++ ys ≡ zs → sets (sets l i xs) j ys ≡ sets l i zs
+sets-then l i j xs ys zs e p = rw (← e, ← p) (sym (sets-append l i xs ys))
+
 -- One turn of a loop that stores a number's octets: the last one is stored, and the k of the rest are still to be. Over any `octets` of
 -- which k + 1 are the rest's k and then the last one.
 module _ (A : Type 0) (octets : ℕ → A → List ℕ) (rest : A → A) (last : A → ℕ)

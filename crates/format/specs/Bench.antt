@@ -2,8 +2,8 @@
 --
 --   bench           the fifteen bench cases A to O, in order: kind, settings, value, and the octets or the refusal that must come
 --   Fifteen         every case comes to what the table says
---   lengths         01's text lengths, by kind and digits 0 to 6
---   TextLengths     they are those of the text form
+--   lengthsOf k     a kind's text lengths, for digits 0 to 6
+--   TextLengths     they are those that 01 lists
 --   NamedDays       the day numbers that 01 names
 use Prim.Native.Nat.{ℕ}
 use mathlib.Core.Path.{_≡_}

@@ -6,7 +6,7 @@
 --   monthLength l k  the days of month k + 1, in a leap year (l) or a common one; 0 where there is no such month
 --   isDay d          there is such a day
 --   dayNumber d      how many days lie before d, from 0001-01-01 on
---   dayOf n          the day with n days before it
+--   dayOf n          the day with n days before it, for an n up to the last day's number
 --   numberAsked d    what the calendar answers when asked for a day number, and dayAsked n when asked for a day
 use Prim.Native.Nat.{ℕ, _+_, _-_, _*_, _/_, _%_}
 use mathlib.Core.List.{List, [], _∷_}

@@ -1,7 +1,7 @@
 -- Which form a value is written in. (01, Choice of form.)
 --
 --   formFor k t v    the form for the kind, the settings and the whole value. Kinds without a time have no extended form, and their text has no fraction
---   kindHas k f      the kind has that form
+--   kindHas k f      the kind has that form: what `formFor` gives and what a reader finds, so a law; no rule asks it
 --   settingsFor f    settings under which a value is written in this form, where it has it
 use mathlib.Core.Bool.{Bool, true, false}
 use Prim.Native.Nat.{ℕ}

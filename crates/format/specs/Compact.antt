@@ -59,7 +59,7 @@ hasCompact k v = leb (count k v) (start k + greatest k (carried k v))
 
 -- ---- the image
 
--- behind an offset days take at least 2 octets, milliseconds 3, T 5 (settled by 01: without the padding 3 octets could mean two things)
+-- behind an offset days take at least 2 octets (000), milliseconds 3 and T 5 (settled by 01: without it 3 octets of a TimeTz could mean two things)
 unfoldable pub paddedTo : Kind → Bool → ℕ
 paddedTo k front = pick front (pick (timed k) (pick (dated k) 5 3) 2) 1
 

@@ -4,7 +4,7 @@
 --   shortest k                  and from so many on they have a length that compact can have
 --   longestPlain k              the most octets that a number without an offset takes
 --   carriedIn k n               n octets have an offset in front
---   notBefore b x, counted b x  x counted from b units earlier: that is not below zero; and how much it is
+--   notBefore b x, counted b x  b + x is not below zero; and b + x
 --   numberInRange k front x     the number is that of a value
 --   usual k front o n x         n octets are as many as x takes, and the offset o in front is one that is written
 --   compactValue k n o          the value of a count n since 0001-01-01 and an offset

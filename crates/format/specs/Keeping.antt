@@ -1,6 +1,7 @@
 -- What a form keeps of a value: the value that is read where this one was written. (Demand 3: cut to what its form keeps.)
 --
 --   own k ..     a value with the parts that the kind has; the others are 0
+--   owned k v    the same of a value
 --   down u m     m cut down to a multiple of u
 --   cut k f v    what the form f keeps of v
 use Prim.Native.Nat.{ℕ, _+_, _*_, _/_}
@@ -18,6 +19,9 @@ own k date micros offset =
       micros = ifAny (timed k) micros;
       offset = pick (zoned k) offset (pos 0);
     }
+
+abbrev pub owned : Kind → Value → Value
+owned k v = own k (v .date) (v .micros) (v .offset)
 
 unfoldable pub down : ℕ → ℕ → ℕ
 down unit micros = micros / unit * unit

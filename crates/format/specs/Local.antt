@@ -5,7 +5,7 @@
 --   restPart unit n      what is over, below one day
 use Prim.Native.Nat.{ℕ, _+_, _*_, _/_, _%_}
 
--- 01, Compact: 86,400,000 × days + milliseconds of the day
+-- 01, Compact, has 86,400,000 × days + milliseconds of the day, its days from 2020-01-01: `number` in `Compact.antt` takes the difference
 abbrev pub join : ℕ → ℕ → ℕ → ℕ
 join unit day rest = day * unit + rest
 

@@ -5,7 +5,7 @@
 --   unsignedAt s at n    the unsigned number of the n octets of s from place `at` on
 --   signedOctets n x     the last n octets of x, in two's complement: more of them than x needs repeat its sign
 --   signedOf s           the number that the octets s stand for, in two's complement: its sign is the first bit
---   half n               n octets hold the numbers from -half n to half n - 1
+--   half n               n octets, one or more, hold the numbers from -half n to half n - 1
 --   fewestOctets x       the fewest octets that hold x, at least one
 --   tight s              s has no redundant sign octet
 use Prim.Native.Nat.{ℕ, zero, suc, _+_, _-_, _*_, _/_, _%_, _^_, _<_}
@@ -62,7 +62,7 @@ signedOf (b ∷ bs) = more (signFrom b) (b ∷ bs)
 abbrev pub half : ℕ → ℕ
 half n = 2 ^ (8 * n - 1)
 
--- the first of n, n + 1, .. that holds x
+-- the first of n, n + 1, .. that holds x; f more are tried after n
 unfoldable pub firstFrom : ℕ → ℕ → ℤ → ℕ
 firstFrom zero n x = n
 firstFrom (suc f) n x = let later = firstFrom f (suc n) x in cond (ltb (mag x) (half n)) n later
@@ -72,7 +72,8 @@ unfolding firstFrom
 fewestOctets x = firstFrom (mag x) 1 x
 
 -- X.690 8.3.2 in its own words: where there are two octets or more, the bits of the first and the first bit of the second
--- are not all zero and not all one. `firstNine` is these nine bits as a number.
+-- are not all zero and not all one. `firstNine` is these nine bits as a number. A reader's own test is `usual`, by the fewest octets; that
+-- the two agree is claimed (`TightIsFewest`).
 abbrev pub firstNine : ℕ → ℕ → ℕ
 firstNine b c = b * 2 + c / 128
 

@@ -3,7 +3,8 @@
 --   firstBits s    the first four bits
 --   formIn k s     the form that is chosen
 --   readIn k f s   what reading s in that form comes to: the first of 5, 6, 7, 8 that applies, each over the whole input before the next
---   read k s       the same with the form chosen, and the answer under its kind and form
+--   readAs k f s   the same, with the answer under its kind and form
+--   read k s       the same in the form that is chosen
 use Prim.Native.Nat.{ℕ, _/_}
 use mathlib.Core.List.{List}
 use lib.Dec.{leb, eqb}
@@ -33,5 +34,8 @@ abbrev pub answer : Kind → Form → Outcome Value → Outcome Answer
 answer k f (accepted v) = accepted (record { kind = k; form = f; value = v })
 answer k f (refused n) = refused n
 
+abbrev pub readAs : Kind → Form → List ℕ → Outcome Answer
+readAs k f s = answer k f (readIn k f s)
+
 unfoldable pub read : Kind → List ℕ → Outcome Answer
-read k s = answer k (formIn k s) (readIn k (formIn k s) s)
+read k s = readAs k (formIn k s) s

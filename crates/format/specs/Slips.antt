@@ -12,7 +12,7 @@ use lib.IntN.{pos, negsuc}
 use Rattle.format.specs.Words.{Outcome, accepted, refused}
 use Rattle.format.specs.Octets.{tight}
 use Rattle.format.specs.Calendar.{yearStart, isDay}
-use Rattle.format.specs.Values.{Kind, Time, TimeTz, Datetime, DatetimeTz, Value, Settings, Form, text, compact, extended, Answer}
+use Rattle.format.specs.Values.{Kind, Date, Time, TimeTz, Datetime, DatetimeTz, Value, Settings, Form, text, compact, extended, Answer}
 use Rattle.format.specs.Choice.{settingsFor}
 use Rattle.format.specs.Writing.{encode}
 use Rattle.format.specs.Reading.{read}
@@ -20,8 +20,8 @@ use Rattle.format.specs.EitherOr.{excepted}
 use Rattle.format.specs.Keeping.{cut}
 use Rattle.format.specs.Bench.{of}
 
-abbrev pub says : Kind → Form → Value → Outcome Answer
-says k f v = accepted (record { kind = k; form = f; value = v })
+abbrev pub reads : Kind → Form → Value → Outcome Answer
+reads k f v = accepted (record { kind = k; form = f; value = v })
 
 -- `12:00:00.0` and what follows it
 abbrev pub noon : List ℕ → List ℕ
@@ -29,14 +29,16 @@ noon s = 49 ∷ 50 ∷ 58 ∷ 48 ∷ 48 ∷ 58 ∷ 48 ∷ 48 ∷ 46 ∷ 48 ∷ s
 
 abbrev pub Slips : Type 0
 Slips =
+    -- 00 00 is a Date with a redundant octet: refusal 7
+    (read Date (0 ∷ 0 ∷ []) ≡ refused 7)
     -- the offset's sign is not the hour's: -00:30 is 30 minutes behind
-    (read TimeTz (noon (45 ∷ 48 ∷ 48 ∷ 58 ∷ 51 ∷ 48 ∷ [])) ≡ says TimeTz (text 1) (of 0 0 0 43200000000 (negsuc 29)))
+    × (read TimeTz (noon (45 ∷ 48 ∷ 48 ∷ 58 ∷ 51 ∷ 48 ∷ [])) ≡ reads TimeTz (text 1) (of 0 0 0 43200000000 (negsuc 29)))
     -- and -00:00 is refusal 7
     × (read TimeTz (noon (45 ∷ 48 ∷ 48 ∷ 58 ∷ 48 ∷ 48 ∷ [])) ≡ refused 7)
     -- the 12-bit offset is signed: -30
-    × (read TimeTz (0x9F ∷ 0xE2 ∷ 0 ∷ 0 ∷ 0 ∷ 0 ∷ 1 ∷ []) ≡ says TimeTz extended (of 0 0 0 1 (negsuc 29)))
+    × (read TimeTz (0x9F ∷ 0xE2 ∷ 0 ∷ 0 ∷ 0 ∷ 0 ∷ 1 ∷ []) ≡ reads TimeTz extended (of 0 0 0 1 (negsuc 29)))
     -- the 16-bit offset is signed: -30
-    × (read TimeTz (0xFF ∷ 0xE2 ∷ 0 ∷ 0 ∷ 1 ∷ []) ≡ says TimeTz compact (of 0 0 0 1000 (negsuc 29)))
+    × (read TimeTz (0xFF ∷ 0xE2 ∷ 0 ∷ 0 ∷ 1 ∷ []) ≡ reads TimeTz compact (of 0 0 0 1000 (negsuc 29)))
     -- 2019-12-31T24:00 is the start of 2020, not of its own day
     × (encode Datetime (settingsFor compact) (of 2019 12 31 86400000000 (pos 0)) ≡ accepted (0 ∷ []))
     -- 5 microseconds are `00:00:00.000005`, not `.5`

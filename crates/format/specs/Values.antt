@@ -4,7 +4,7 @@
 --   Value                   the parts of a value of any kind: a writer does not look at parts that the kind lacks; in an answer they are 0
 --   endOfDay                24:00 in microseconds: the largest time, and not the same as 00:00
 --   timeInRange, offsetInRange, inRange   a time is; an offset is; each part that the kind has is
---   Settings                binary or not; the version; the digits of a text's fraction
+--   Settings                binary or not; the version; the digits of a text's fraction (6 of them also ask for the extended form)
 --   permitted t             the settings are ones that may be given
 --   defaults                the settings where nothing is said
 --   Form                    text with its number of fraction digits, compact, extended
@@ -68,11 +68,12 @@ greatestOffset = 1439
 unfoldable pub offsetInRange : ℤ → Bool
 offsetInRange minutes = leb (natAbs minutes) greatestOffset
 
+-- the time and the offset; and all parts
+abbrev pub restInRange : Kind → Value → Bool
+restInRange k v = both (needs (timed k) (timeInRange (v .micros))) (needs (zoned k) (offsetInRange (v .offset)))
+
 unfoldable pub inRange : Kind → Value → Bool
-inRange k v =
-    both (needs (dated k) (isDay (v .date)))
-    (both (needs (timed k) (timeInRange (v .micros)))
-    (needs (zoned k) (offsetInRange (v .offset))))
+inRange k v = both (needs (dated k) (isDay (v .date))) (restInRange k v)
 
 pub record Settings : Type 0 where
   pub binary : Bool

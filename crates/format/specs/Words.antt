@@ -1,12 +1,16 @@
--- Document 01 as definitions: the words that the other files are written in. Read the files in the order of `Lib.antt`, which is 01's.
+-- Document 01 as definitions: the words that the other files are written in. Read the files in the order of `Lib.antt`, which follows 01's.
 -- Each opens with a legend, a line a name, and each definition names its place in 01 (or X.690). This is the legend of what is not ours:
 --
---   ℕ                a number 0, 1, 2, ..: `/` rounds down, `%` is what is over, and `a - b` is 0 where b is greater
---   ℤ                an integer: `pos n` is n, `negsuc n` is -(n + 1); `natAbs x` is its size, `subℕ a b` is a - b
+--   ℕ                a number 0, 1, 2, ..: `/` rounds down, `%` is what is over, `^` is a power, and `a - b` is 0 where b is greater;
+--                    `zero` is 0, `suc n` is n + 1, `max a b` the greater one
+--   ℤ                an integer: `pos n` is n, `negsuc n` is -(n + 1); `natAbs x` is its size, `nonNeg x` says that it is not below 0,
+--                    `mag x` is n of n and of -(n + 1), `subℕ a b` is a - b, `negℤ x` is -x, `+ℤ` and `*ℤ` are sum and product
 --   List ℕ           octets, first to last: `[]` none, `x ∷ s` x and then s, `a ++ b` a and then b
 --   length s         how many; `getD s i 0` the one at place i, from 0 on; `take n s` the first n, `drop n s` the others
 --   Bool             a test's outcome: `leb a b` is a ≤ b, `ltb a b` is a < b, `eqb a b` is a = b, `not t` the opposite
 --   v .date .year    a part of a part of v; `record { .. }` lists the parts
+--   let n = a in b   b, where n stands for a
+--   cond t a b       a where the test t holds, else b; `elim t [ true ↦ a | false ↦ b ]` too, which computes only the one that is taken
 --   f a b            f of a and b; a definition's first line says what it takes and, behind the last arrow, what it gives
 --
 -- and of what this file adds:

@@ -2,7 +2,8 @@
 --
 --   imageIn k f v   the image of a value in a form
 --   hasForm k f v   the value has that form
---   encode k t v    what writing comes to: 1, 2, 3 in order, or the image; 4, the buffer, comes after all of them (`Buffer.antt`)
+--   encodeIn k f v  what writing in that form comes to: 2, 3, or the image
+--   encode k t v    what writing comes to: 1, or what it comes to in the chosen form; 4, the buffer, comes after all of them (`Buffer.antt`)
 use Prim.Native.Nat.{ℕ}
 use mathlib.Core.List.{List}
 use mathlib.Core.Bool.{Bool, true}
@@ -23,10 +24,13 @@ hasForm k (text d) v = true
 hasForm k compact v = hasCompact k v
 hasForm k extended v = true
 
--- 1, digits above 6, in every kind and form; 2, a value part out of its range, or no such day; 3, no compact form
+-- 2, a value part out of its range, or no such day; 3, no compact form
+abbrev pub encodeIn : Kind → Form → Value → Outcome (List ℕ)
+encodeIn k f v =
+    unless (inRange k v) 2
+    (unless (hasForm k f v) 3
+    (accepted (imageIn k f v)))
+
+-- 1, digits above 6, in every kind and form
 unfoldable pub encode : Kind → Settings → Value → Outcome (List ℕ)
-encode k t v =
-    unless (digitsInRange (t .digits)) 1
-    (unless (inRange k v) 2
-    (unless (hasForm k (formFor k t v) v) 3
-    (accepted (imageIn k (formFor k t v) v))))
+encode k t v = unless (digitsInRange (t .digits)) 1 (encodeIn k (formFor k t v) v)

@@ -1,5 +1,5 @@
--- No two different answers meet one promise: of a writer, of a reader, and of each constructor and small call. What an answer means can be
--- undone, a clause for each case. Assumes nothing.
+-- No two different answers meet one promise: of any writer, of any reader, and of each public call, at the promise that its contract cites
+-- (specs/Calls). What an answer means can be undone, a clause for each case. Assumes nothing.
 use mathlib.Core.Path.{_≡_, refl, sym, _∙_, ap}
 use mathlib.Core.Bool.{Bool}
 use mathlib.Core.List.{List}
@@ -23,11 +23,16 @@ use Rattle.values.specs.declared.answers.Written.{Written}
 use Rattle.values.specs.declared.answers.Written.the-variants as W
 use Rattle.values.specs.declared.answers.Decoded.{Decoded}
 use Rattle.values.specs.declared.answers.Decoded.the-variants as D
+use Rattle.values.specs.declared.answers.Parsed.{Parsed}
+use Rattle.values.specs.declared.answers.Parsed.the-variants as P
 use Rattle.values.specs.declared.answers.Reading.{Reading}
 use Rattle.values.specs.declared.answers.Reading.the-variants as G
-use Rattle.values.specs.Meaning.{refusalNumber, formFrom, settingsFrom, kindFrom, valueFrom}
-use Rattle.values.specs.Answers.{writtenNumber, writtenCount, decoded, reading}
-use Rattle.values.specs.Promise.{Left, Writes, Reads}
+use Rattle.values.specs.Meaning.{refusalNumber, formFrom, settingsFrom}
+use Rattle.values.specs.Answers.{writtenNumber, writtenCount, decoded, reading, parsed}
+use Rattle.values.specs.Promise.{Left, Writes, Reads, Parses}
+use Rattle.values.specs.Calls.{TimeNew, TimeEndOfDay, TimeIsEndOfDay, TimeInRange, OffsetNew, OffsetInRange}
+use Rattle.values.specs.Calls.{KindDated, KindTimed, KindZoned, ValueRestInRange, ValueInRange, RefusalNumber}
+use Rattle.values.specs.Calls.{SettingsNew, SettingsDefault, SettingsForForm, SettingsForm, SettingsInRange}
 
 -- ---- meanings undone
 
@@ -110,6 +115,20 @@ reading-back (G.Stamp (D.Datetime a)) = rw (form-back (a .form))
 reading-back (G.Stamp (D.DatetimeTz a)) = rw (form-back (a .form))
 reading-back (G.Refused r) = rw (refusal-back r)
 
+parsedOf : Outcome format.Answer → Parsed
+parsedOf (accepted a) =
+    P.Stamp (formOf (a .form)) (record {
+      date = record { year = a .value .date .year; month = a .value .date .month; day = a .value .date .day };
+      time = record { micros = a .value .micros };
+      offset = record { minutes = a .value .offset };
+    })
+parsedOf (refused n) = P.Refused (refusalOf n)
+
+parsed-back : (k : format.Kind) (r : Parsed) → parsedOf (parsed k r) ≡ r
+unfolding parsedOf
+parsed-back k (P.Stamp f v) = rw (form-back f)
+parsed-back k (P.Refused r) = rw (refusal-back r)
+
 -- ---- writers and readers, of all kinds
 
 -- number, count and buffer are settled
@@ -127,47 +146,58 @@ one-writing o lent r r′ left left′ p q =
 pub one-reading : (o : Outcome format.Answer) → OneAnswer (Reads o)
 one-reading = meaning-one reading readingOf reading-back
 
--- ---- constructors and small calls
+pub one-parsing : (k : format.Kind) (o : Outcome format.Answer) → OneAnswer (Parses k o)
+one-parsing k = meaning-one (parsed k) parsedOf (parsed-back k)
 
-pub one-time-new : (micros : ℕ) → OneAnswer (λ (r : Time). r ≡ record { micros = micros })
-one-time-new micros = equal-one (record { micros = micros })
+-- ---- each public call, at the promise that its contract cites
 
-pub one-end-of-day : OneAnswer (λ (r : Time). r ≡ record { micros = format.endOfDay })
-one-end-of-day = equal-one (record { micros = format.endOfDay })
+pub one-time-new : (micros : ℕ) → OneAnswer (TimeNew micros)
+one-time-new micros = equal-one _
 
-pub one-is-end-of-day : (t : Time) → OneAnswer (λ (r : Bool). r ≡ eqb (t .micros) format.endOfDay)
-one-is-end-of-day t = equal-one (eqb (t .micros) format.endOfDay)
+pub one-end-of-day : OneAnswer TimeEndOfDay
+one-end-of-day = equal-one _
 
-pub one-time-in-range : (t : Time) → OneAnswer (λ (r : Bool). r ≡ format.timeInRange (t .micros))
-one-time-in-range t = equal-one (format.timeInRange (t .micros))
+pub one-is-end-of-day : (t : Time) → OneAnswer (TimeIsEndOfDay t)
+one-is-end-of-day t = equal-one _
 
-pub one-offset-new : (minutes : ℤ) → OneAnswer (λ (r : Offset). r ≡ record { minutes = minutes })
-one-offset-new minutes = equal-one (record { minutes = minutes })
+pub one-time-in-range : (t : Time) → OneAnswer (TimeInRange t)
+one-time-in-range t = equal-one _
 
-pub one-offset-in-range : (f : Offset) → OneAnswer (λ (r : Bool). r ≡ format.offsetInRange (f .minutes))
-one-offset-in-range f = equal-one (format.offsetInRange (f .minutes))
+pub one-offset-new : (minutes : ℤ) → OneAnswer (OffsetNew minutes)
+one-offset-new minutes = equal-one _
 
-pub one-refusal-number : (f : Refusal) → OneAnswer (λ (r : ℕ). r ≡ refusalNumber f)
-one-refusal-number f = equal-one (refusalNumber f)
+pub one-offset-in-range : (o : Offset) → OneAnswer (OffsetInRange o)
+one-offset-in-range o = equal-one _
 
--- `new`, `default` and `for_form`, each at what it promises
-pub one-settings : (t : format.Settings) → OneAnswer (λ (r : Settings). settingsFrom r ≡ t)
-one-settings = meaning-one settingsFrom settingsOf settings-back
+pub one-dated : (k : Kind) → OneAnswer (KindDated k)
+one-dated k = equal-one _
 
-pub one-settings-in-range : (t : Settings) → OneAnswer (λ (r : Bool). r ≡ format.digitsInRange (t .digits))
-one-settings-in-range t = equal-one (format.digitsInRange (t .digits))
+pub one-timed : (k : Kind) → OneAnswer (KindTimed k)
+one-timed k = equal-one _
 
-pub one-form : (f : format.Form) → OneAnswer (λ (r : Form). formFrom r ≡ f)
-one-form = meaning-one formFrom formOf form-back
+pub one-zoned : (k : Kind) → OneAnswer (KindZoned k)
+one-zoned k = equal-one _
 
-pub one-dated : (k : Kind) → OneAnswer (λ (r : Bool). r ≡ format.dated (kindFrom k))
-one-dated k = equal-one (format.dated (kindFrom k))
+pub one-rest-in-range : (v : Value) (k : Kind) → OneAnswer (ValueRestInRange v k)
+one-rest-in-range v k = equal-one _
 
-pub one-timed : (k : Kind) → OneAnswer (λ (r : Bool). r ≡ format.timed (kindFrom k))
-one-timed k = equal-one (format.timed (kindFrom k))
+pub one-value-in-range : (v : Value) (k : Kind) → OneAnswer (ValueInRange v k)
+one-value-in-range v k = equal-one _
 
-pub one-zoned : (k : Kind) → OneAnswer (λ (r : Bool). r ≡ format.zoned (kindFrom k))
-one-zoned k = equal-one (format.zoned (kindFrom k))
+pub one-refusal-number : (f : Refusal) → OneAnswer (RefusalNumber f)
+one-refusal-number f = equal-one _
 
-pub one-value-in-range : (k : Kind) (v : Value) → OneAnswer (λ (r : Bool). r ≡ format.inRange (kindFrom k) (valueFrom v))
-one-value-in-range k v = equal-one (format.inRange (kindFrom k) (valueFrom v))
+pub one-settings-new : (binary : Bool) (version digits : ℕ) → OneAnswer (SettingsNew binary version digits)
+one-settings-new binary version digits = meaning-one settingsFrom settingsOf settings-back _
+
+pub one-settings-default : OneAnswer SettingsDefault
+one-settings-default = meaning-one settingsFrom settingsOf settings-back _
+
+pub one-settings-for-form : (f : Form) → OneAnswer (SettingsForForm f)
+one-settings-for-form f = meaning-one settingsFrom settingsOf settings-back _
+
+pub one-settings-form : (t : Settings) (k : Kind) (v : Value) → OneAnswer (SettingsForm t k v)
+one-settings-form t k v = meaning-one formFrom formOf form-back _
+
+pub one-settings-in-range : (t : Settings) → OneAnswer (SettingsInRange t)
+one-settings-in-range t = equal-one _

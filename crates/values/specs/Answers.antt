@@ -4,6 +4,7 @@
 --   writtenCount r    its count of octets: 0 after a refusal
 --   decoded d         a decoded stamp: kind, form with its digits, value
 --   reading r         what a reader answered: the stamp, or the refusal's number and nothing else
+--   parsed k r        the same of a reader that is told the kind
 use Prim.Native.Nat.{ℕ}
 use Rattle.format.specs.Words.{Outcome, accepted, refused}
 use Rattle.format.specs.Values.{Answer}
@@ -12,9 +13,11 @@ use Rattle.values.specs.declared.answers.Written.{Written}
 use Rattle.values.specs.declared.answers.Written.the-variants as W
 use Rattle.values.specs.declared.answers.Decoded.{Decoded}
 use Rattle.values.specs.declared.answers.Decoded.the-variants as D
+use Rattle.values.specs.declared.answers.Parsed.{Parsed}
+use Rattle.values.specs.declared.answers.Parsed.the-variants as P
 use Rattle.values.specs.declared.answers.Reading.{Reading}
 use Rattle.values.specs.declared.answers.Reading.the-variants as G
-use Rattle.values.specs.Meaning.{refusalNumber, formFrom, dateValue, dateTzValue, timeValue, timeTzValue, datetimeValue, datetimeTzValue}
+use Rattle.values.specs.Meaning.{refusalNumber, formFrom, valueFrom, dateValue, dateTzValue, timeValue, timeTzValue, datetimeValue, datetimeTzValue}
 
 abbrev pub writtenNumber : Written → ℕ
 writtenNumber (W.Octets n) = 0
@@ -35,3 +38,7 @@ decoded (D.DatetimeTz a) = record { kind = format.DatetimeTz; form = formFrom (a
 abbrev pub reading : Reading → Outcome Answer
 reading (G.Stamp d) = accepted (decoded d)
 reading (G.Refused r) = refused (refusalNumber r)
+
+abbrev pub parsed : format.Kind → Parsed → Outcome Answer
+parsed k (P.Stamp f v) = accepted (record { kind = k; form = formFrom f; value = valueFrom v })
+parsed k (P.Refused r) = refused (refusalNumber r)

@@ -6,6 +6,7 @@ use crate::Form;
 use crate::Refusal;
 use crate::Time;
 use crate::TimeTz;
+use crate::Value;
 use calendar::Date;
 
 // What a writer answers: how many octets it wrote, or why none.
@@ -58,5 +59,11 @@ pub enum Decoded {
 // What a reader answers: the stamp, or why there is none.
 pub enum Reading {
     Stamp(Decoded),
+    Refused(Refusal),
+}
+
+// The same whatever the kind: all parts, of which those that the kind lacks are 0.
+pub enum Parsed {
+    Stamp(Form, Value),
     Refused(Refusal),
 }

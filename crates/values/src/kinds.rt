@@ -2,9 +2,10 @@
 ghost use mathlib.Core.Path.{_≡_};
 ghost use Rattle.format.specs.Words.{needs};
 ghost use Rattle.format.specs.Calendar.{isDay};
-ghost use Rattle.format.specs.Values.{dated, timed, zoned, timeInRange, offsetInRange, inRange};
+ghost use Rattle.format.specs.Values.{dated, timed, zoned, timeInRange, offsetInRange};
 ghost use Rattle.calendar.specs.Meaning.{dayFrom};
-ghost use Rattle.values.specs.Meaning.{kindFrom, valueFrom};
+ghost use Rattle.values.specs.Meaning.{kindFrom};
+ghost use Rattle.values.specs.Calls.{KindDated, KindTimed, KindZoned, ValueRestInRange, ValueInRange};
 use crate::Offset;
 use crate::Time;
 use calendar::Date;
@@ -41,7 +42,7 @@ pub enum Kind {
 
 impl Kind {
     pub fn dated(self) -> bool
-        ensures { λ r. ⌜ r ≡ dated (kindFrom self) ⌝ }
+        ensures { λ r. ⌜ KindDated self r ⌝ }
     {
         match self {
             Kind::Date => true,
@@ -54,7 +55,7 @@ impl Kind {
     }
 
     pub fn timed(self) -> bool
-        ensures { λ r. ⌜ r ≡ timed (kindFrom self) ⌝ }
+        ensures { λ r. ⌜ KindTimed self r ⌝ }
     {
         match self {
             Kind::Date => false,
@@ -67,7 +68,7 @@ impl Kind {
     }
 
     pub fn zoned(self) -> bool
-        ensures { λ r. ⌜ r ≡ zoned (kindFrom self) ⌝ }
+        ensures { λ r. ⌜ KindZoned self r ⌝ }
     {
         match self {
             Kind::Date => false,
@@ -116,19 +117,26 @@ fn offset_fits(kind: Kind, offset: Offset) -> bool
 }
 
 impl Value {
-    // Whether each part that the kind has is in its range.
-    pub fn in_range(self, kind: Kind) -> bool
-        ensures { λ r. ⌜ r ≡ inRange (kindFrom kind) (valueFrom self) ⌝ }
+    // Whether time and offset are, where the kind has them: what is left to test where the date's day number is asked for.
+    pub fn rest_in_range(self, kind: Kind) -> bool
+        ensures { λ r. ⌜ ValueRestInRange self kind r ⌝ }
     {
-        let date = self.date;
         let time = self.time;
         let offset = self.offset;
-        if !date_fits(kind, date) {
-            return false;
-        }
         if !time_fits(kind, time) {
             return false;
         }
         offset_fits(kind, offset)
+    }
+
+    // Whether each part that the kind has is in its range.
+    pub fn in_range(self, kind: Kind) -> bool
+        ensures { λ r. ⌜ ValueInRange self kind r ⌝ }
+    {
+        let date = self.date;
+        if !date_fits(kind, date) {
+            return false;
+        }
+        self.rest_in_range(kind)
     }
 }

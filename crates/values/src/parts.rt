@@ -1,7 +1,5 @@
 // The parts of a value besides its date: the time of day and the offset from UTC.
-ghost use mathlib.Core.Path.{_≡_};
-ghost use lib.Dec.{eqb};
-ghost use Rattle.format.specs.Values.{endOfDay, timeInRange, offsetInRange};
+ghost use Rattle.values.specs.Calls.{TimeNew, TimeEndOfDay, TimeIsEndOfDay, TimeInRange, OffsetNew, OffsetInRange};
 
 // Microseconds since the start of the day.
 pub struct Time {
@@ -13,13 +11,13 @@ impl Time {
     pub const END_OF_DAY: u64 = 86_400_000_000;
 
     pub fn new(micros: u64) -> Time
-        ensures { λ r. ⌜ r ≡ record { micros = micros } ⌝ }
+        ensures { λ r. ⌜ TimeNew micros r ⌝ }
     {
         Time { micros }
     }
 
     pub fn end_of_day() -> Time
-        ensures { λ r. ⌜ r ≡ record { micros = endOfDay } ⌝ }
+        ensures { λ r. ⌜ TimeEndOfDay r ⌝ }
     {
         Time {
             micros: Time::END_OF_DAY,
@@ -27,13 +25,13 @@ impl Time {
     }
 
     pub fn is_end_of_day(self) -> bool
-        ensures { λ r. ⌜ r ≡ eqb (self .micros) endOfDay ⌝ }
+        ensures { λ r. ⌜ TimeIsEndOfDay self r ⌝ }
     {
         self.micros == Time::END_OF_DAY
     }
 
     pub fn in_range(self) -> bool
-        ensures { λ r. ⌜ r ≡ timeInRange (self .micros) ⌝ }
+        ensures { λ r. ⌜ TimeInRange self r ⌝ }
     {
         self.micros <= Time::END_OF_DAY
     }
@@ -49,14 +47,14 @@ impl Offset {
     pub const LIMIT: i32 = 1_439;
 
     pub fn new(minutes: i32) -> Offset
-        ensures { λ r. ⌜ r ≡ record { minutes = minutes } ⌝ }
+        ensures { λ r. ⌜ OffsetNew minutes r ⌝ }
     {
         Offset { minutes }
     }
 
     // Both bounds are tested, and nothing is negated: the least number of 32 bits has no opposite.
     pub fn in_range(self) -> bool
-        ensures { λ r. ⌜ r ≡ offsetInRange (self .minutes) ⌝ }
+        ensures { λ r. ⌜ OffsetInRange self r ⌝ }
     {
         let minutes = self.minutes;
         if minutes < 0 - Offset::LIMIT {

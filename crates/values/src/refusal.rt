@@ -1,6 +1,5 @@
 // Why a call refuses.
-ghost use mathlib.Core.Path.{_≡_};
-ghost use Rattle.values.specs.Meaning.{refusalNumber};
+ghost use Rattle.values.specs.Calls.{RefusalNumber};
 
 // In the order of document 01's numbers, 1 to 8. Writers answer the first four, readers the others.
 pub enum Refusal {
@@ -24,7 +23,7 @@ pub enum Refusal {
 
 impl Refusal {
     pub fn number(self) -> u32
-        ensures { λ r. ⌜ r ≡ refusalNumber self ⌝ }
+        ensures { λ r. ⌜ RefusalNumber self r ⌝ }
     {
         match self {
             Refusal::Digits => 1,

@@ -1,8 +1,5 @@
 // How a writer is set, and the forms that a value is written in.
-ghost use mathlib.Core.Path.{_≡_};
-ghost use Rattle.format.specs.Values.{defaults, digitsInRange};
-ghost use Rattle.format.specs.Choice.{formFor, settingsFor};
-ghost use Rattle.values.specs.Meaning.{formFrom, settingsFrom, kindFrom, valueFrom};
+ghost use Rattle.values.specs.Calls.{SettingsNew, SettingsDefault, SettingsForForm, SettingsForm, SettingsInRange};
 use crate::Kind;
 use crate::Value;
 
@@ -26,7 +23,7 @@ impl Settings {
     pub const EXTENDED_FROM: u32 = 35_500;
 
     pub fn new(binary: bool, version: u32, digits: u32) -> Settings
-        ensures { λ r. ⌜ settingsFrom r ≡ record { binary = binary; version = version; digits = digits } ⌝ }
+        ensures { λ r. ⌜ SettingsNew binary version digits r ⌝ }
     {
         Settings {
             binary,
@@ -37,7 +34,7 @@ impl Settings {
 
     // Text with milliseconds.
     pub fn default() -> Settings
-        ensures { λ r. ⌜ settingsFrom r ≡ defaults ⌝ }
+        ensures { λ r. ⌜ SettingsDefault r ⌝ }
     {
         Settings {
             binary: false,
@@ -48,7 +45,7 @@ impl Settings {
 
     // Settings under which a value that has this form is written in it: what to write with again after a read.
     pub fn for_form(form: Form) -> Settings
-        ensures { λ r. ⌜ settingsFrom r ≡ settingsFor (formFrom form) ⌝ }
+        ensures { λ r. ⌜ SettingsForForm form r ⌝ }
     {
         match form {
             Form::Text(digits) => Settings::new(false, 0, digits),
@@ -59,7 +56,7 @@ impl Settings {
 
     // 01, Choice of form: kinds without a time have no extended form, and their text has no fraction.
     pub fn form(self, kind: Kind, value: Value) -> Form
-        ensures { λ r. ⌜ formFrom r ≡ formFor (kindFrom kind) (settingsFrom self) (valueFrom value) ⌝ }
+        ensures { λ r. ⌜ SettingsForm self kind value r ⌝ }
     {
         let digits = self.digits;
         if !self.binary {
@@ -85,7 +82,7 @@ impl Settings {
     }
 
     pub fn in_range(self) -> bool
-        ensures { λ r. ⌜ r ≡ digitsInRange (self .digits) ⌝ }
+        ensures { λ r. ⌜ SettingsInRange self r ⌝ }
     {
         self.digits <= Settings::MAX_DIGITS
     }

@@ -1,0 +1,58 @@
+-- One answer for every public call: each is a theorem of the call's own crate. Assumes nothing.
+use Rattle.calendar.proofs.OneAnswer as calendar
+use Rattle.values.proofs.OneAnswer as values
+use Rattle.stamp.proofs.OneAnswer as stamp
+use Rattle.claims.specs.OneAnswer.{CalendarAnswers, PartsAnswers, SettingsAnswers, WritersAnswers, ReadersAnswers}
+
+pub calendar-answers : CalendarAnswers
+calendar-answers = (calendar.one-new, calendar.one-in-range, calendar.one-day-number, calendar.one-date-of)
+
+pub parts-answers : PartsAnswers
+parts-answers = (
+  values.one-time-new,
+  values.one-end-of-day,
+  values.one-is-end-of-day,
+  values.one-time-in-range,
+  values.one-offset-new,
+  values.one-offset-in-range,
+  values.one-dated,
+  values.one-timed,
+  values.one-zoned,
+  values.one-rest-in-range,
+  values.one-value-in-range,
+  values.one-refusal-number,
+)
+
+pub settings-answers : SettingsAnswers
+settings-answers = (
+  values.one-settings-new,
+  values.one-settings-default,
+  values.one-settings-for-form,
+  values.one-settings-form,
+  values.one-settings-in-range,
+)
+
+pub writers-answers : WritersAnswers
+writers-answers = (
+  stamp.one-write,
+  stamp.one-write-date,
+  stamp.one-write-date-tz,
+  stamp.one-write-time,
+  stamp.one-write-time-tz,
+  stamp.one-write-datetime,
+  stamp.one-write-datetime-tz,
+)
+
+pub readers-answers : ReadersAnswers
+readers-answers = (
+  stamp.one-read,
+  stamp.one-read-date,
+  stamp.one-read-date-tz,
+  stamp.one-read-time,
+  stamp.one-read-time-tz,
+  stamp.one-read-datetime,
+  stamp.one-read-datetime-tz,
+  stamp.one-read-date-or-date-tz,
+  stamp.one-read-time-or-time-tz,
+  stamp.one-read-datetime-or-datetime-tz,
+)

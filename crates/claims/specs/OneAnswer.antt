@@ -1,0 +1,81 @@
+-- One answer: no two different answers meet the promise of a public call, whatever it is given. (01, What the promises have to say.)
+-- Each promise has the name that the call's contract cites (`specs/Calls.antt` of `calendar`, `values` and `stamp`); `OneAnswer P` says that no two
+-- different answers meet P, and `OneWriting P` the same of a writer's answer and every octet of the buffer that it leaves.
+use Prim.Native.Nat.{ℕ}
+use mathlib.Core.Path.{_≡_}
+use mathlib.Core.Bool.{Bool}
+use mathlib.Core.List.{List}
+use lib.IntN.{ℤ}
+use Rattle.format.specs.Promises.{OneAnswer}
+use Rattle.calendar.specs.declared.Date.{Date}
+use Rattle.calendar.specs.Calls.{DateNew, DateInRange, DayNumber, DateOf}
+use Rattle.values.specs.declared.parts.Time.{Time}
+use Rattle.values.specs.declared.parts.Offset.{Offset}
+use Rattle.values.specs.declared.kinds.DateTz.{DateTz}
+use Rattle.values.specs.declared.kinds.TimeTz.{TimeTz}
+use Rattle.values.specs.declared.kinds.Datetime.{Datetime}
+use Rattle.values.specs.declared.kinds.DatetimeTz.{DatetimeTz}
+use Rattle.values.specs.declared.kinds.Kind.{Kind}
+use Rattle.values.specs.declared.kinds.Value.{Value}
+use Rattle.values.specs.declared.refusal.Refusal.{Refusal}
+use Rattle.values.specs.declared.settings.Form.{Form}
+use Rattle.values.specs.declared.settings.Settings.{Settings}
+use Rattle.values.specs.declared.answers.Written.{Written}
+use Rattle.values.specs.Calls as values
+use Rattle.stamp.specs.Calls as stamp
+
+abbrev pub OneWriting : (List ℕ → Written → List ℕ → Type 0) → Type 0
+OneWriting P = (lent : List ℕ) (r r′ : Written) (left left′ : List ℕ) → P lent r left → P lent r′ left′ → (r ≡ r′) × (left ≡ left′)
+
+abbrev pub CalendarAnswers : Type 0
+CalendarAnswers =
+    ((y m d : ℕ) → OneAnswer (DateNew y m d))
+    × ((d : Date) → OneAnswer (DateInRange d))
+    × ((d : Date) → OneAnswer (DayNumber d))
+    × ((n : ℕ) → OneAnswer (DateOf n))
+
+abbrev pub PartsAnswers : Type 0
+PartsAnswers =
+    ((m : ℕ) → OneAnswer (values.TimeNew m))
+    × OneAnswer values.TimeEndOfDay
+    × ((t : Time) → OneAnswer (values.TimeIsEndOfDay t))
+    × ((t : Time) → OneAnswer (values.TimeInRange t))
+    × ((m : ℤ) → OneAnswer (values.OffsetNew m))
+    × ((o : Offset) → OneAnswer (values.OffsetInRange o))
+    × ((k : Kind) → OneAnswer (values.KindDated k))
+    × ((k : Kind) → OneAnswer (values.KindTimed k))
+    × ((k : Kind) → OneAnswer (values.KindZoned k))
+    × ((v : Value) (k : Kind) → OneAnswer (values.ValueRestInRange v k))
+    × ((v : Value) (k : Kind) → OneAnswer (values.ValueInRange v k))
+    × ((f : Refusal) → OneAnswer (values.RefusalNumber f))
+
+abbrev pub SettingsAnswers : Type 0
+SettingsAnswers =
+    ((b : Bool) (n d : ℕ) → OneAnswer (values.SettingsNew b n d))
+    × OneAnswer values.SettingsDefault
+    × ((f : Form) → OneAnswer (values.SettingsForForm f))
+    × ((t : Settings) (k : Kind) (v : Value) → OneAnswer (values.SettingsForm t k v))
+    × ((t : Settings) → OneAnswer (values.SettingsInRange t))
+
+abbrev pub WritersAnswers : Type 0
+WritersAnswers =
+    ((k : Kind) (t : Settings) (v : Value) → OneWriting (stamp.WritesKind k t v))
+    × ((t : Settings) (v : Date) → OneWriting (stamp.WritesDate t v))
+    × ((t : Settings) (v : DateTz) → OneWriting (stamp.WritesDateTz t v))
+    × ((t : Settings) (v : Time) → OneWriting (stamp.WritesTime t v))
+    × ((t : Settings) (v : TimeTz) → OneWriting (stamp.WritesTimeTz t v))
+    × ((t : Settings) (v : Datetime) → OneWriting (stamp.WritesDatetime t v))
+    × ((t : Settings) (v : DatetimeTz) → OneWriting (stamp.WritesDatetimeTz t v))
+
+abbrev pub ReadersAnswers : Type 0
+ReadersAnswers =
+    ((k : Kind) (s : List ℕ) → OneAnswer (stamp.ParsesKind k s))
+    × ((s : List ℕ) → OneAnswer (stamp.ReadsDate s))
+    × ((s : List ℕ) → OneAnswer (stamp.ReadsDateTz s))
+    × ((s : List ℕ) → OneAnswer (stamp.ReadsTime s))
+    × ((s : List ℕ) → OneAnswer (stamp.ReadsTimeTz s))
+    × ((s : List ℕ) → OneAnswer (stamp.ReadsDatetime s))
+    × ((s : List ℕ) → OneAnswer (stamp.ReadsDatetimeTz s))
+    × ((s : List ℕ) → OneAnswer (stamp.ReadsDateOrDateTz s))
+    × ((s : List ℕ) → OneAnswer (stamp.ReadsTimeOrTimeTz s))
+    × ((s : List ℕ) → OneAnswer (stamp.ReadsDatetimeOrDatetimeTz s))

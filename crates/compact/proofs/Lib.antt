@@ -1,0 +1,8 @@
+-- What the proofs of this crate's functions share: facts on plain numbers and lists.
+pub mod Since
+pub mod Toward
+pub mod Bits
+pub mod Flags
+pub mod Shortest
+pub mod Stored
+pub mod Room

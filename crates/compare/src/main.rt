@@ -1,0 +1,67 @@
+// Answers a file of cases, for a comparison with another program: a case on each line of standard input, its answer on a line of
+// standard output. `parse` says how a case is written, `answers` how its answer is.
+ghost use Prim.Native.Nat.{_≤_};
+ghost use lib.ListN.{length};
+use libc::STDIN_FILENO;
+
+mod answers;
+mod parse;
+
+// All cases are held at once, and one octet more.
+const MOST_OCTETS: usize = 2_097_152;
+
+// An answer has some 110 octets at most: the hex of 48 octets, their count and the refusal number.
+const LINE: usize = 160;
+
+// Where the line that starts at `from` ends: at its line feed, or where the cases end.
+fn line_end(cases: &[u8], from: usize) -> usize
+    requires { ⌜ from ≤ length (now cases) ⌝ }
+    ensures { λ r. ⌜ (from ≤ r) × (r ≤ length (now (cases .entry))) ⌝ }
+{
+    let mut at = from;
+    while at < cases.len() {
+        if cases[at] == b'\n' {
+            return at;
+        }
+        at += 1;
+    }
+    at
+}
+
+fn print_answer(case: &[u8]) {
+    let mut out = [0u8; LINE];
+    let end = answers::answer(&mut out, case);
+    let next = show::line::octet(&mut out, end, b'\n');
+    show::start_of(&out, next);
+}
+
+fn print_answers(cases: &[u8]) {
+    let mut at = 0;
+    while at < cases.len() {
+        let end = line_end(cases, at);
+        print_answer(&cases[at..end]);
+        if end == cases.len() {
+            return;
+        }
+        at = end + 1;
+    }
+}
+
+fn answer_all(space: &mut [u8]) {
+    let count = io::read_full(STDIN_FILENO, space);
+    if count == space.len() {
+        show::text(b"the cases have no room\n");
+        return;
+    }
+    print_answers(&space[..count]);
+}
+
+// Takes the array by its type, which says its length: in `main` a proof would have to count its zeros.
+fn answer_in(space: &mut [u8; MOST_OCTETS]) {
+    answer_all(space);
+}
+
+fn main() {
+    let mut space = [0u8; MOST_OCTETS];
+    answer_in(&mut space);
+}

@@ -1,0 +1,53 @@
+// The header: four bits that say plain or zoned, and twelve for the offset in two's complement.
+ghost use mathlib.Core.Path.{_≡_};
+ghost use Prim.Native.Nat.{_+_, _*_, _<_};
+ghost use Rattle.format.specs.Floor.{modF};
+ghost use Rattle.format.specs.Extended.{headBits, offsetFrom};
+ghost use Rattle.format.specs.Values.{zoned};
+ghost use Rattle.format.specs.Words.{ifAny};
+ghost use Rattle.values.specs.Meaning.{kindFrom};
+use values::Kind;
+use values::Offset;
+
+// 1000 for plain, 1001 for zoned.
+pub fn head_bits(kind: Kind) -> u8
+    ensures { λ r. ⌜ r ≡ headBits (kindFrom kind) ⌝ }
+{
+    if kind.zoned() { 9 } else { 8 }
+}
+
+// The low twelve bits of a number in two's complement are its floor modulo 4096.
+fn offset_bits(offset: Offset) -> u32
+    ensures { λ r. ⌜ r ≡ modF (offset .minutes) 4096 ⌝ }
+{
+    let minutes = offset.minutes;
+    (minutes & 0xfff) as u32
+}
+
+// A plain header's twelve bits are zero.
+fn twelve_bits(kind: Kind, offset: Offset) -> u32
+    ensures { λ r. ⌜ r ≡ ifAny (zoned (kindFrom kind)) (modF (offset .minutes) 4096) ⌝ }
+{
+    if kind.zoned() {
+        return offset_bits(offset);
+    }
+    0
+}
+
+pub fn header(kind: Kind, offset: Offset) -> u64
+    ensures { λ r. ⌜ r ≡ headBits (kindFrom kind) * 4096 + ifAny (zoned (kindFrom kind)) (modF (offset .minutes) 4096) ⌝ }
+{
+    (head_bits(kind) as u64) * 4096 + (twelve_bits(kind, offset) as u64)
+}
+
+// The offset of the header's twelve bits: the first of them is its sign.
+pub fn offset_of(bits: u32) -> Offset
+    requires { ⌜ bits < 4096 ⌝ }
+    ensures { λ r. ⌜ r .minutes ≡ offsetFrom bits ⌝ }
+{
+    let number = bits as i32;
+    if bits < 2048 {
+        return Offset::new(number);
+    }
+    Offset::new(number - 4096)
+}

@@ -1,0 +1,43 @@
+-- The form that is chosen, in reading and in writing, and what the choice tells. Assumes nothing.
+use mathlib.Core.Path.{_≡_, refl, sym, _∙_}
+use mathlib.Core.Bool.{Bool, true, false}
+use mathlib.Core.List.{List}
+use Prim.Native.Nat.{ℕ, _<_, _≤_}
+use lib.Dec.{leb, eqb}
+use lib.ListN.{length}
+use borrow.Author.Tests.{le-leb, lt-leb, leb-true}
+use Rattle.format.specs.Words.{both, ifAny, Outcome, accepted}
+use Rattle.format.specs.Values.{Kind, timed, Value, Settings, digitsInRange, Form, text, compact, extended, Answer}
+use Rattle.format.specs.Choice.{formFor, kindHas}
+use Rattle.format.specs.TextReading.{digitsFound}
+use Rattle.format.specs.CompactReading.{longest}
+use Rattle.format.specs.Extended.{headBits}
+use Rattle.format.specs.Reading.{firstBits, formIn, readAs, read}
+use Rattle.format.proofs.Cases.{at-most}
+use Rattle.format.proofs.Choosing.{chosen-has}
+
+-- ---- reading
+
+module _ (k : Kind) (s : List ℕ) where
+  pub as-compact : length s ≤ longest k → read k s ≡ readAs k compact s
+  unfolding read formIn
+  as-compact h = rw (le-leb (length s) (longest k) h)
+
+  pub as-extended : longest k < length s → both (timed k) (eqb (firstBits s) (headBits k)) ≡ true → read k s ≡ readAs k extended s
+  unfolding read formIn
+  as-extended h e = rw (lt-leb (length s) (longest k) h, e)
+
+  pub as-text : longest k < length s → both (timed k) (eqb (firstBits s) (headBits k)) ≡ false → read k s ≡ readAs k (text (digitsFound k (length s))) s
+  unfolding read formIn
+  as-text h e = rw (lt-leb (length s) (longest k) h, e)
+
+-- ---- writing: a chosen form is one that the kind has
+
+module _ (k : Kind) (t : Settings) (v : Value) (l : digitsInRange (t .digits) ≡ true) where
+  pub chosen-digits : (d : ℕ) → formFor k t v ≡ text d → d ≤ 6
+  unfolding kindHas
+  chosen-digits d e = at-most (timed k) d (leb-true _ _ (rw e at (chosen-has k t v (leb-true (t .digits) 6 l))))
+
+  pub chosen-timed : formFor k t v ≡ extended → timed k ≡ true
+  unfolding kindHas
+  chosen-timed e = rw e at (chosen-has k t v (leb-true (t .digits) 6 l))

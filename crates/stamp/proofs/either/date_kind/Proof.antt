@@ -1,0 +1,24 @@
+-- `date_kind` meets its contract: the first rule that fits, by the length. Assumes nothing.
+use borrow.Author.Tests.{le-leb, lt-leb}
+use Rattle.format.specs.EitherOr.{kindIn}
+use Rattle.stamp.proofs.either.date_kind.Statement.{statement}
+use Rattle.stamp.proofs.either.date_kind.Tie as tie
+
+returns : tie.Need-returns
+unfolding kindIn
+returns c = rw (le-leb _ _ (c .if1 .taken))
+
+returns-2 : tie.Need-returns-2
+unfolding kindIn
+returns-2 c = rw (lt-leb _ _ (c .before .if1 .left), le-leb _ _ (c .if2 .taken))
+
+returns-3 : tie.Need-returns-3
+unfolding kindIn
+returns-3 c = rw (lt-leb _ _ (c .before .before .if1 .left), lt-leb _ _ (c .before .if2 .left), le-leb _ _ (c .if3 .taken))
+
+returns-4 : tie.Need-returns-4
+unfolding kindIn
+returns-4 c = rw (lt-leb _ _ (c .before .before .if1 .left), lt-leb _ _ (c .before .if2 .left), lt-leb _ _ (c .if3 .left))
+
+pub date-kind-spec : {M : Type 1} → statement M
+date-kind-spec = tie.close (tie.spec returns returns-2 returns-3 returns-4)

@@ -1,0 +1,21 @@
+-- `write_date_tz` meets its contract: what the kind lacks is 0. Assumes nothing.
+use borrow.Author.Needs.{needs}
+use Rattle.stamp.proofs.writers.write_date_tz.Statement.{statement}
+use Rattle.stamp.proofs.writers.write_date_tz.Tie as tie
+
+new-requires : tie.Need-new-requires
+new-requires c κs = search needs
+
+write-requires : tie.Need-write-requires
+write-requires c κs = search needs
+
+same-length : tie.Need-same-length
+same-length c = search needs
+
+returns : tie.Need-returns
+returns c =
+    let w = c .before .before in
+    rw (w .before .before .new .ensures) at (w .write .ensures)
+
+pub write-date-tz-spec : {M : Type 1} → statement M
+write-date-tz-spec = tie.close (tie.spec new-requires write-requires same-length returns)

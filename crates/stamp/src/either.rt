@@ -1,0 +1,78 @@
+// The kind that an either-or reader chooses. (01, How a reader chooses: the first rule that fits.)
+ghost use mathlib.Core.Path.{_≡_};
+ghost use Prim.Native.Nat.{_<_};
+ghost use lib.ListN.{length};
+ghost use lib.Dec.{eqb};
+ghost use Rattle.format.specs.Reading.{firstBits};
+ghost use Rattle.format.specs.EitherOr.{DateOrTz, TimeOrTz, DatetimeOrTz, kindIn};
+ghost use Rattle.values.specs.Meaning.{kindFrom};
+use values::Kind;
+
+pub(crate) fn date_kind(s: &[u8]) -> Kind
+    ensures { λ r. ⌜ kindFrom r ≡ kindIn DateOrTz (now (s .entry)) ⌝ }
+{
+    let n = s.len();
+    if n <= 3 {
+        return Kind::Date;
+    }
+    if n <= 5 {
+        return Kind::DateTz;
+    }
+    if n <= 10 {
+        return Kind::Date;
+    }
+    Kind::DateTz
+}
+
+pub(crate) fn time_kind(s: &[u8]) -> Kind
+    ensures { λ r. ⌜ kindFrom r ≡ kindIn TimeOrTz (now (s .entry)) ⌝ }
+{
+    let n = s.len();
+    if n <= 4 {
+        return Kind::Time;
+    }
+    if n <= 6 {
+        return Kind::TimeTz;
+    }
+    if n == 7 {
+        return time_kind_of_seven(s);
+    }
+    if n <= 15 {
+        return Kind::Time;
+    }
+    Kind::TimeTz
+}
+
+// The header's bits count at this length only.
+fn time_kind_of_seven(s: &[u8]) -> Kind
+    requires { ⌜ length (now s) ≡ 7 ⌝ }
+    ensures { λ r. ⌜ kindFrom r ≡ kindIn TimeOrTz (now (s .entry)) ⌝ }
+{
+    if s[0] / 16 == 9 {
+        return Kind::TimeTz;
+    }
+    Kind::Time
+}
+
+pub(crate) fn datetime_kind(s: &[u8]) -> Kind
+    ensures { λ r. ⌜ kindFrom r ≡ kindIn DatetimeOrTz (now (s .entry)) ⌝ }
+{
+    let n = s.len();
+    if n <= 6 {
+        return Kind::Datetime;
+    }
+    if n <= 9 {
+        return Kind::DatetimeTz;
+    }
+    let bits = s[0] / 16;
+    if bits == 8 {
+        return Kind::Datetime;
+    }
+    if bits == 9 {
+        return Kind::DatetimeTz;
+    }
+    if n <= 26 {
+        return Kind::Datetime;
+    }
+    Kind::DatetimeTz
+}

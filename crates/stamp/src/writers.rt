@@ -1,0 +1,85 @@
+// The six writers. One promise: what `encode` says of the kind, the settings and the value, and every octet of the lent buffer.
+ghost use Rattle.stamp.specs.Calls.{WritesDate, WritesDateTz, WritesTime, WritesTimeTz, WritesDatetime, WritesDatetimeTz};
+use crate::writing;
+use calendar::Date;
+use values::DateTz;
+use values::Datetime;
+use values::DatetimeTz;
+use values::Kind;
+use values::Offset;
+use values::Settings;
+use values::Time;
+use values::TimeTz;
+use values::Value;
+use values::Written;
+
+pub fn write_date(value: Date, settings: Settings, buf: &mut [u8]) -> Written
+    ensures { λ r. ⌜ WritesDate settings value (now (buf .entry)) r (now (buf .exit)) ⌝ }
+{
+    let all = Value {
+        date: value,
+        time: Time::new(0),
+        offset: Offset::new(0),
+    };
+    writing::write(Kind::Date, all, settings, buf)
+}
+
+pub fn write_date_tz(value: DateTz, settings: Settings, buf: &mut [u8]) -> Written
+    ensures { λ r. ⌜ WritesDateTz settings value (now (buf .entry)) r (now (buf .exit)) ⌝ }
+{
+    let date = value.date;
+    let offset = value.offset;
+    let all = Value {
+        date,
+        time: Time::new(0),
+        offset,
+    };
+    writing::write(Kind::DateTz, all, settings, buf)
+}
+
+pub fn write_time(value: Time, settings: Settings, buf: &mut [u8]) -> Written
+    ensures { λ r. ⌜ WritesTime settings value (now (buf .entry)) r (now (buf .exit)) ⌝ }
+{
+    let all = Value {
+        date: Date::new(0, 0, 0),
+        time: value,
+        offset: Offset::new(0),
+    };
+    writing::write(Kind::Time, all, settings, buf)
+}
+
+pub fn write_time_tz(value: TimeTz, settings: Settings, buf: &mut [u8]) -> Written
+    ensures { λ r. ⌜ WritesTimeTz settings value (now (buf .entry)) r (now (buf .exit)) ⌝ }
+{
+    let time = value.time;
+    let offset = value.offset;
+    let all = Value {
+        date: Date::new(0, 0, 0),
+        time,
+        offset,
+    };
+    writing::write(Kind::TimeTz, all, settings, buf)
+}
+
+pub fn write_datetime(value: Datetime, settings: Settings, buf: &mut [u8]) -> Written
+    ensures { λ r. ⌜ WritesDatetime settings value (now (buf .entry)) r (now (buf .exit)) ⌝ }
+{
+    let date = value.date;
+    let time = value.time;
+    let all = Value {
+        date,
+        time,
+        offset: Offset::new(0),
+    };
+    writing::write(Kind::Datetime, all, settings, buf)
+}
+
+pub fn write_datetime_tz(value: DatetimeTz, settings: Settings, buf: &mut [u8]) -> Written
+    ensures { λ r. ⌜ WritesDatetimeTz settings value (now (buf .entry)) r (now (buf .exit)) ⌝ }
+{
+    let date = value.date;
+    let time = value.time;
+    let offset = value.offset;
+    let all = Value { date, time, offset };
+    writing::write(Kind::DatetimeTz, all, settings, buf)
+}

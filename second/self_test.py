@@ -1,0 +1,154 @@
+"""The self-test: python3 stamp.py --self-test
+
+Checks the calendar against Python's datetime for every day there is, the
+examples of the documents, and that writing and reading, which share no
+procedure, agree: see the docstrings.
+"""
+
+import datetime
+
+import examples
+import reading
+import writing
+from chance import Chance
+from common import *
+from reading import read
+from reading_cases import reading_cases
+from writing import write
+from writing_cases import writing_cases
+
+
+def test_calendar():
+    """Both directions and "is there such a day", for all ordinals."""
+    number = 0
+    for year in range(1, 10_000):
+        for month in range(1, 13):
+            for day in range(0, 33):
+                try:
+                    ordinal = datetime.date(year, month, day).toordinal()
+                except ValueError:
+                    assert not is_date(year, month, day)
+                    continue
+                assert is_date(year, month, day)
+                assert ordinal - 1 == number
+                assert writing.day_number(year, month, day) == number
+                assert reading.date_of_day_number(number) == (year, month, day)
+                number += 1
+    assert number - 1 == LAST_DAY_NUMBER == 3_652_058
+    assert writing.day_number(2020, 1, 1) == DAY_NUMBER_OF_2020
+    for wrong in ((0, 1, 1), (10_000, 1, 1), (2020, 0, 1), (2020, 13, 1)):
+        assert not is_date(*wrong)
+    # 01 Values: the 400 year starts of the cycle.
+    for i in range(400):
+        assert writing.YEAR_START[i + 1] == 365 * i + i // 4 - i // 100
+
+
+def test_constants():
+    """Numbers that 01 states follow from others that it states."""
+    assert FIRST_T == -DAY_NUMBER_OF_2020 * MILLIS_OF_DAY
+    assert LAST_T_WITHOUT_OFFSET == 2 ** 47 - 1
+    assert LAST_T_WITH_OFFSET == (
+        (LAST_DAY_NUMBER - DAY_NUMBER_OF_2020 + 1) * MILLIS_OF_DAY - 1)
+    assert LAST_DAY_NUMBER - DAY_NUMBER_OF_2020 == 2_914_634
+
+
+def test_integers():
+    """BER integers around every limit, against Python's own conversion."""
+    for bits in range(0, 64):
+        for near in range(-3, 4):
+            for number in (2 ** bits + near, -(2 ** bits) + near):
+                octets = writing.ber_integer(number, 1)
+                assert int.from_bytes(octets, "big", signed=True) == number
+                assert reading.signed(octets) == number
+                assert not reading.first_octet_is_redundant(octets)
+                longer = writing.ber_integer(number, len(octets) + 1)
+                assert len(longer) == len(octets) + 1
+                assert reading.signed(longer) == number
+                assert reading.first_octet_is_redundant(longer)
+
+
+def test_examples():
+    """The fifteen bench lines, "Run, not proved", and docs/DECISIONS.md."""
+    output = ""
+    for letter, call in examples.BENCH:
+        number, octets = write(*call)
+        output += "%s %d %s\n" % (letter, number, octets.hex().upper() or "-")
+    assert output == examples.BENCH_OUTPUT, output
+    for call, (number, octets) in examples.WRITING:
+        assert write(*call) == (number, bytes.fromhex(octets)), call
+    for kind, octets, answer in examples.READING:
+        assert read(kind, octets) == answer, (kind, octets, read(kind, octets))
+
+
+def value_kept(kind, form, year, month, day, micros, offset, digits):
+    """The value that an image of it stands for, by B6; parts lacking are 0."""
+    if kind not in KINDS_WITH_DATE:
+        year = month = day = 0
+    if kind not in KINDS_WITH_TIME:
+        micros = 0
+    if kind not in KINDS_WITH_OFFSET:
+        offset = 0
+    if form == TEXT:
+        micros -= micros % 10 ** (6 - digits)
+    if form == COMPACT:
+        micros -= micros % 1000
+        if kind in (DATETIME, DATETIME_TZ) and micros == MICROS_OF_DAY:
+            next_day = datetime.date(year, month, day) + datetime.timedelta(1)
+            year, month, day = next_day.year, next_day.month, next_day.day
+            micros = 0
+    if form != TEXT or kind in (DATE, DATE_TZ):
+        digits = 0
+    return kind, form, digits, year, month, day, micros, offset
+
+
+def check_written(call):
+    """What is written is read back as the value that the form keeps."""
+    number, octets = write(*call)
+    if number != 0:
+        return
+    kind, year, month, day, micros, offset, binary, version, digits = call
+    form = writing.form_to_write(kind, micros, binary, version, digits)
+    wanted = value_kept(kind, form, year, month, day, micros, offset, digits)
+    assert read(kind, octets) == wanted, (call, octets)
+
+
+def check_read(kind, octets):
+    """What is read is written again as the same octets (settings by B31)."""
+    answer = read(kind, octets)
+    if isinstance(answer, int):
+        assert 5 <= answer <= 8
+        return
+    kind, form, digits, year, month, day, micros, offset = answer
+    binary, version, digits = ((0, 0, digits), (1, 0, 3), (1, 35_500, 6))[form]
+    call = kind, year, month, day, micros, offset, binary, version, digits
+    assert write(*call) == (0, octets), (call, octets)
+
+
+def test_both_ways():
+    """Every short octet string, values and octets by chance, all cases."""
+    for kind in range(9):
+        for first in range(256):
+            check_read(kind, bytes([first]))
+            for second in range(256):
+                check_read(kind, bytes([first, second]))
+    chance = Chance(7)
+    for _ in range(60_000):
+        kind = chance.below(6)
+        check_written((
+            kind, chance.between(1, 9999), chance.between(1, 12),
+            chance.between(1, 31),
+            chance.pick((0, MICROS_OF_DAY, chance.with_bits(37))),
+            chance.between(-1439, 1439) * chance.below(2), chance.below(2),
+            chance.pick((0, 35_499, 35_500)), chance.below(7)))
+        check_read(chance.below(9), chance.octets(chance.between(1, 10)))
+    for case in writing_cases():
+        check_written(case[:9])
+    for case in reading_cases():
+        check_read(*case)
+
+
+def run():
+    for test in (test_constants, test_integers, test_examples, test_calendar,
+                 test_both_ways):
+        test()
+        print("%-16s good" % test.__name__)

@@ -1,0 +1,31 @@
+#!/usr/bin/env python3
+"""Writes and reads the contents octets of date-and-time stamps.
+
+Kinds:  0 Date, 1 DateTz, 2 Time, 3 TimeTz, 4 Datetime, 5 DatetimeTz;
+        for reading also 6, 7, 8: Date, Time, Datetime, each "or its Tz".
+Forms:  0 text, 1 compact, 2 extended.
+
+    write(kind, year, month, day, micros, offset, binary, version, digits)
+        -> (0, octets) or (refusal 1 to 3, no octets)
+    write_into(the same, room)
+        -> (0 or refusal 1 to 4, count, the buffer of `room` octets afterwards)
+    read(kind, octets)
+        -> refusal 5 to 8, or
+           (kind, form, digits, year, month, day, micros, offset)
+
+Writing and reading are separate procedures in files of their own. They share
+only the numbers of document 01, the leap rule and the lengths of the months.
+"""
+
+import sys
+
+from common import *
+from reading import read
+from writing import write, write_into
+
+
+if __name__ == "__main__":
+    if sys.argv[1:] != ["--self-test"]:
+        sys.exit("usage: stamp.py --self-test")
+    import self_test
+    self_test.run()
