@@ -2,7 +2,8 @@
 use Rattle.calendar.proofs.OneAnswer as calendar
 use Rattle.values.proofs.OneAnswer as values
 use Rattle.stamp.proofs.OneAnswer as stamp
-use Rattle.claims.specs.OneAnswer.{CalendarAnswers, PartsAnswers, SettingsAnswers, WritersAnswers, ReadersAnswers}
+use Rattle.boundary.proofs.OneAnswer.{one-stamp-write, one-stamp-read}
+use Rattle.claims.specs.OneAnswer.{CalendarAnswers, PartsAnswers, SettingsAnswers, WritersAnswers, ReadersAnswers, BoundaryAnswers}
 
 pub calendar-answers : CalendarAnswers
 calendar-answers = (calendar.one-new, calendar.one-in-range, calendar.one-day-number, calendar.one-date-of)
@@ -55,4 +56,10 @@ readers-answers = (
   stamp.one-read-date-or-date-tz,
   stamp.one-read-time-or-time-tz,
   stamp.one-read-datetime-or-datetime-tz,
+  stamp.one-date-kind,
+  stamp.one-time-kind,
+  stamp.one-datetime-kind,
 )
+
+pub boundary-answers : BoundaryAnswers
+boundary-answers = (one-stamp-write, one-stamp-read)

@@ -1,5 +1,5 @@
 -- One answer: no two different answers meet the promise of a public call, whatever it is given. (01, What the promises have to say.)
--- Each promise has the name that the call's contract cites (`specs/Calls.antt` of `calendar`, `values` and `stamp`); `OneAnswer P` says that no two
+-- Each promise has the name that the call's contract cites (`specs/Calls.antt` of `calendar`, `values` and `stamp`, `specs/Boundary.antt` of `boundary`); `OneAnswer P` says that no two
 -- different answers meet P, and `OneWriting P` the same of a writer's answer and every octet of the buffer that it leaves.
 use Prim.Native.Nat.{ℕ}
 use mathlib.Core.Path.{_≡_}
@@ -23,6 +23,8 @@ use Rattle.values.specs.declared.settings.Settings.{Settings}
 use Rattle.values.specs.declared.answers.Written.{Written}
 use Rattle.values.specs.Calls as values
 use Rattle.stamp.specs.Calls as stamp
+use Rattle.format.specs.Values as format
+use Rattle.boundary.specs.Boundary as boundary
 
 abbrev pub OneWriting : (List ℕ → Written → List ℕ → Type 0) → Type 0
 OneWriting P = (lent : List ℕ) (r r′ : Written) (left left′ : List ℕ) → P lent r left → P lent r′ left′ → (r ≡ r′) × (left ≡ left′)
@@ -79,3 +81,15 @@ ReadersAnswers =
     × ((s : List ℕ) → OneAnswer (stamp.ReadsDateOrDateTz s))
     × ((s : List ℕ) → OneAnswer (stamp.ReadsTimeOrTimeTz s))
     × ((s : List ℕ) → OneAnswer (stamp.ReadsDatetimeOrDatetimeTz s))
+    × ((s : List ℕ) → OneAnswer (stamp.ChoosesDate s))
+    × ((s : List ℕ) → OneAnswer (stamp.ChoosesTime s))
+    × ((s : List ℕ) → OneAnswer (stamp.ChoosesDatetime s))
+
+-- the C functions: the number, the count and every octet; the number and all eight parts
+abbrev pub BoundaryAnswers : Type 0
+BoundaryAnswers =
+    ((n : ℕ) (t : format.Settings) (v : format.Value) (lent : List ℕ) (r r′ count count′ : ℕ) (left left′ : List ℕ)
+    → boundary.WritesNumbered n t v lent r count left → boundary.WritesNumbered n t v lent r′ count′ left′
+    → (r ≡ r′) × (count ≡ count′) × (left ≡ left′))
+    × ((n : ℕ) (s : List ℕ) (lent : List ℤ) (r r′ : ℕ) (left left′ : List ℤ)
+    → boundary.ReadsNumbered n s lent r left → boundary.ReadsNumbered n s lent r′ left′ → (r ≡ r′) × (left ≡ left′))

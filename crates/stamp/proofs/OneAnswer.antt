@@ -14,10 +14,10 @@ use Rattle.values.specs.declared.kinds.Kind.{Kind}
 use Rattle.values.specs.declared.kinds.Value.{Value}
 use Rattle.values.specs.declared.settings.Settings.{Settings}
 use Rattle.values.specs.declared.answers.Written.{Written}
-use Rattle.values.proofs.OneAnswer.{one-writing, one-reading, one-parsing}
+use Rattle.values.proofs.OneAnswer.{one-writing, one-reading, one-parsing, one-kind}
 use Rattle.stamp.specs.Calls.{WritesKind, WritesDate, WritesDateTz, WritesTime, WritesTimeTz, WritesDatetime, WritesDatetimeTz}
 use Rattle.stamp.specs.Calls.{ParsesKind, ReadsDate, ReadsDateTz, ReadsTime, ReadsTimeTz, ReadsDatetime, ReadsDatetimeTz}
-use Rattle.stamp.specs.Calls.{ReadsDateOrDateTz, ReadsTimeOrTimeTz, ReadsDatetimeOrDatetimeTz}
+use Rattle.stamp.specs.Calls.{ReadsDateOrDateTz, ReadsTimeOrTimeTz, ReadsDatetimeOrDatetimeTz, ChoosesDate, ChoosesTime, ChoosesDatetime}
 
 -- ---- writers
 
@@ -80,3 +80,14 @@ one-read-time-or-time-tz s = one-reading _
 
 pub one-read-datetime-or-datetime-tz : (s : List ℕ) → OneAnswer (ReadsDatetimeOrDatetimeTz s)
 one-read-datetime-or-datetime-tz s = one-reading _
+
+-- ---- the kind that an either-or reader chooses
+
+pub one-date-kind : (s : List ℕ) → OneAnswer (ChoosesDate s)
+one-date-kind s = one-kind _
+
+pub one-time-kind : (s : List ℕ) → OneAnswer (ChoosesTime s)
+one-time-kind s = one-kind _
+
+pub one-datetime-kind : (s : List ℕ) → OneAnswer (ChoosesDatetime s)
+one-datetime-kind s = one-kind _

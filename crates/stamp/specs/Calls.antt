@@ -6,12 +6,14 @@
 --   ParsesKind k s r                  `read`: what `read` says of the kind and the octets
 --   ReadsDate s r, ..                 `read_date` and the other five: the same of their kind
 --   ReadsDateOrDateTz s r, ..         `read_date_or_date_tz` and the other two: what `readEither` says of the two kinds and the octets
+--   ChoosesDate s r, ..               `date_kind` and the other two: the kind that the either-or reader chooses
 use Prim.Native.Nat.{ℕ}
+use mathlib.Core.Path.{_≡_}
 use mathlib.Core.List.{List}
 use Rattle.format.specs.Values as format
 use Rattle.format.specs.Writing.{encode}
 use Rattle.format.specs.Reading.{read}
-use Rattle.format.specs.EitherOr.{DateOrTz, TimeOrTz, DatetimeOrTz, readEither}
+use Rattle.format.specs.EitherOr.{DateOrTz, TimeOrTz, DatetimeOrTz, kindIn, readEither}
 use Rattle.calendar.specs.declared.Date.{Date}
 use Rattle.values.specs.declared.parts.Time.{Time}
 use Rattle.values.specs.declared.kinds.DateTz.{DateTz}
@@ -98,3 +100,14 @@ ReadsTimeOrTimeTz s r = Reads (readEither TimeOrTz s) r
 -- a date and time, with or without offset
 abbrev pub ReadsDatetimeOrDatetimeTz : List ℕ → Reading → Type 0
 ReadsDatetimeOrDatetimeTz s r = Reads (readEither DatetimeOrTz s) r
+
+-- ---- the kind that an either-or reader chooses
+
+abbrev pub ChoosesDate : List ℕ → Kind → Type 0
+ChoosesDate s r = kindFrom r ≡ kindIn DateOrTz s
+
+abbrev pub ChoosesTime : List ℕ → Kind → Type 0
+ChoosesTime s r = kindFrom r ≡ kindIn TimeOrTz s
+
+abbrev pub ChoosesDatetime : List ℕ → Kind → Type 0
+ChoosesDatetime s r = kindFrom r ≡ kindIn DatetimeOrTz s

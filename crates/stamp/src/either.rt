@@ -4,12 +4,13 @@ ghost use Prim.Native.Nat.{_<_};
 ghost use lib.ListN.{length};
 ghost use lib.Dec.{eqb};
 ghost use Rattle.format.specs.Reading.{firstBits};
-ghost use Rattle.format.specs.EitherOr.{DateOrTz, TimeOrTz, DatetimeOrTz, kindIn};
+ghost use Rattle.format.specs.EitherOr.{TimeOrTz, kindIn};
 ghost use Rattle.values.specs.Meaning.{kindFrom};
+ghost use Rattle.stamp.specs.Calls.{ChoosesDate, ChoosesTime, ChoosesDatetime};
 use values::Kind;
 
-pub(crate) fn date_kind(s: &[u8]) -> Kind
-    ensures { λ r. ⌜ kindFrom r ≡ kindIn DateOrTz (now (s .entry)) ⌝ }
+pub fn date_kind(s: &[u8]) -> Kind
+    ensures { λ r. ⌜ ChoosesDate (now (s .entry)) r ⌝ }
 {
     let n = s.len();
     if n <= 3 {
@@ -24,8 +25,8 @@ pub(crate) fn date_kind(s: &[u8]) -> Kind
     Kind::DateTz
 }
 
-pub(crate) fn time_kind(s: &[u8]) -> Kind
-    ensures { λ r. ⌜ kindFrom r ≡ kindIn TimeOrTz (now (s .entry)) ⌝ }
+pub fn time_kind(s: &[u8]) -> Kind
+    ensures { λ r. ⌜ ChoosesTime (now (s .entry)) r ⌝ }
 {
     let n = s.len();
     if n <= 4 {
@@ -54,8 +55,8 @@ fn time_kind_of_seven(s: &[u8]) -> Kind
     Kind::Time
 }
 
-pub(crate) fn datetime_kind(s: &[u8]) -> Kind
-    ensures { λ r. ⌜ kindFrom r ≡ kindIn DatetimeOrTz (now (s .entry)) ⌝ }
+pub fn datetime_kind(s: &[u8]) -> Kind
+    ensures { λ r. ⌜ ChoosesDatetime (now (s .entry)) r ⌝ }
 {
     let n = s.len();
     if n <= 6 {

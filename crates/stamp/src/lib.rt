@@ -7,6 +7,9 @@ mod reading;
 mod writers;
 mod writing;
 
+pub use either::date_kind;
+pub use either::datetime_kind;
+pub use either::time_kind;
 pub use readers::read_date;
 pub use readers::read_date_or_date_tz;
 pub use readers::read_date_tz;

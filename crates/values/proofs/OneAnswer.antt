@@ -13,6 +13,7 @@ use Rattle.format.proofs.Promises.{equal-one, meaning-one}
 use Rattle.values.specs.declared.parts.Time.{Time}
 use Rattle.values.specs.declared.parts.Offset.{Offset}
 use Rattle.values.specs.declared.kinds.Kind.{Kind}
+use Rattle.values.specs.declared.kinds.Kind.the-variants as K
 use Rattle.values.specs.declared.kinds.Value.{Value}
 use Rattle.values.specs.declared.refusal.Refusal.{Refusal}
 use Rattle.values.specs.declared.refusal.Refusal.the-variants as R
@@ -27,7 +28,7 @@ use Rattle.values.specs.declared.answers.Parsed.{Parsed}
 use Rattle.values.specs.declared.answers.Parsed.the-variants as P
 use Rattle.values.specs.declared.answers.Reading.{Reading}
 use Rattle.values.specs.declared.answers.Reading.the-variants as G
-use Rattle.values.specs.Meaning.{refusalNumber, formFrom, settingsFrom}
+use Rattle.values.specs.Meaning.{refusalNumber, formFrom, settingsFrom, kindFrom}
 use Rattle.values.specs.Answers.{writtenNumber, writtenCount, decoded, reading, parsed}
 use Rattle.values.specs.Promise.{Left, Writes, Reads, Parses}
 use Rattle.values.specs.Calls.{TimeNew, TimeEndOfDay, TimeIsEndOfDay, TimeInRange, OffsetNew, OffsetInRange}
@@ -63,6 +64,23 @@ unfolding formOf
 form-back (F.Text d) = refl
 form-back F.Compact = refl
 form-back F.Extended = refl
+
+kindOf : format.Kind → Kind
+kindOf format.Date = K.Date
+kindOf format.DateTz = K.DateTz
+kindOf format.Time = K.Time
+kindOf format.TimeTz = K.TimeTz
+kindOf format.Datetime = K.Datetime
+kindOf format.DatetimeTz = K.DatetimeTz
+
+kind-back : (k : Kind) → kindOf (kindFrom k) ≡ k
+unfolding kindOf
+kind-back K.Date = refl
+kind-back K.DateTz = refl
+kind-back K.Time = refl
+kind-back K.TimeTz = refl
+kind-back K.Datetime = refl
+kind-back K.DatetimeTz = refl
 
 settingsOf : format.Settings → Settings
 settingsOf t = record { binary = t .binary; version = t .version; digits = t .digits }
@@ -145,6 +163,10 @@ one-writing o lent r r′ left left′ p q =
 
 pub one-reading : (o : Outcome format.Answer) → OneAnswer (Reads o)
 one-reading = meaning-one reading readingOf reading-back
+
+-- a kind that is chosen
+pub one-kind : (k : format.Kind) → OneAnswer (λ (r : Kind). kindFrom r ≡ k)
+one-kind = meaning-one kindFrom kindOf kind-back
 
 pub one-parsing : (k : format.Kind) (o : Outcome format.Answer) → OneAnswer (Parses k o)
 one-parsing k = meaning-one (parsed k) parsedOf (parsed-back k)

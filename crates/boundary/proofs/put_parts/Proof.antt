@@ -1,0 +1,76 @@
+-- `put_parts` meets its contract: each cast keeps its number. Assumes nothing.
+use mathlib.Core.Path.{_∙_}
+use mir.Syntax.{w32}
+use mir.Val.{SFits}
+use mir.Facts.{toZ-ofZ, sfits-widen}
+use Rattle.boundary.specs.Boundary.{partsOf}
+use Rattle.boundary.proofs.Parts.{eight-kept}
+use borrow.Author.Needs.{needs, sfits-of}
+use Rattle.boundary.proofs.put_parts.Statement.{statement}
+use Rattle.boundary.proofs.put_parts.Tie as tie
+
+kind-number-requires : tie.Need-kind-number-requires
+kind-number-requires c κs = search needs
+
+cast-kind : tie.Need-cast-kind
+cast-kind c = search needs
+
+form-digits-requires : tie.Need-form-digits-requires
+form-digits-requires c κs = search needs
+
+cast-digits : tie.Need-cast-digits
+cast-digits c = search needs
+
+form-number-requires : tie.Need-form-number-requires
+form-number-requires c κs = search needs
+
+cast-form : tie.Need-cast-form
+cast-form c = search needs
+
+cast-year : tie.Need-cast-year
+cast-year c = search needs
+
+cast-month : tie.Need-cast-month
+cast-month c = search needs
+
+cast-day : tie.Need-cast-day
+cast-day c = search needs
+
+cast-micros : tie.Need-cast-micros
+cast-micros c = search needs
+
+cast-minutes : tie.Need-cast-minutes
+cast-minutes c =
+    let f : SFits w32 (c .before .before .before .before .before .before .before .before .before .before .before .before .args .value .offset .minutes) = sfits-of (search needs) in
+    rw (toZ-ofZ f) (sfits-widen tt f)
+
+returns : tie.Need-returns
+unfolding partsOf
+returns c =
+    let y = c .before .before .before .before .before .before in
+    let f = y .before in
+    let d = f .before in
+    let k = d .before in
+    let s = k .before .before .before .before in
+    let v = s .args .value in
+    eight-kept _ _ _ (v .date .year) (v .date .month) (v .date .day) (v .time .micros) (v .offset .minutes)
+    (k .kind-number .ok) (f .form-number .ok) (d .form-digits .ok)
+    (y .struct-known .given .0 .fits) (y .struct-known .given .1 .0 .fits) (y .struct-known .given .1 .1 .0 .fits) (s .pre) (sfits-of (search needs))
+    ∙ rw (k .kind-number .ensures, f .form-number .ensures, d .form-digits .ensures)
+
+pub put-parts-spec : {M : Type 1} → statement M
+put-parts-spec =
+    tie.close
+    (tie.spec
+    kind-number-requires
+    cast-kind
+    form-digits-requires
+    cast-digits
+    form-number-requires
+    cast-form
+    cast-year
+    cast-month
+    cast-day
+    cast-micros
+    cast-minutes
+    returns)

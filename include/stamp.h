@@ -1,0 +1,270 @@
+/* stamp.h - reads and writes date-and-time stamps (BDE BER date-and-time format), for C99 and C++.
+ *
+ * A stamp is the contents octets of one of six kinds in one of three forms. Identifier and length octets are the
+ * caller's. The library is the archive libstamp.a, and it exports two functions: stamp_write and stamp_read. All else
+ * here is a constant, a struct, or a small inline function over these two.
+ *
+ *     uint8_t lent[STAMP_LONGEST_IMAGE];
+ *     size_t count;
+ *     stamp_value night = stamp_datetimetz(2019, 12, 31, stamp_micros(23, 59, 59, 999999), -270);
+ *     uint32_t refusal = stamp_encode(&night, stamp_default_settings(), lent, sizeof lent, &count);
+ *
+ * Every call takes any input and answers: a refusal number, 0 for none. After a refusal nothing has changed but
+ * *count, which is 0: a lent buffer and a lent answer stay as they were. An octet past an accepted image stays too.
+ * Nothing is allocated and nothing is kept between calls (no global state), so calls from several threads
+ * need no lock; each thread lends its own buffers. A pointer to no octets (length or room 0) may be null; no other. */
+#ifndef STAMP_H
+#define STAMP_H
+
+#include <stddef.h>
+#include <stdint.h>
+#ifndef __cplusplus
+#include <stdbool.h>
+#endif
+
+#define STAMP_RELEASE "1.0"
+
+/* ---- Kinds, forms, limits ---- */
+
+/* What a stamp says. Writers know the first six, readers all nine. */
+enum {
+    STAMP_DATE = 0,                    /* year, month, day */
+    STAMP_DATETZ = 1,                  /* a date and an offset from UTC */
+    STAMP_TIME = 2,                    /* microseconds of the day */
+    STAMP_TIMETZ = 3,                  /* a time and an offset from UTC */
+    STAMP_DATETIME = 4,                /* a date and a time */
+    STAMP_DATETIMETZ = 5,              /* a date, a time and an offset from UTC */
+    STAMP_DATE_OR_DATETZ = 6,          /* readers only: the octets tell which of the two */
+    STAMP_TIME_OR_TIMETZ = 7,          /* readers only: the octets tell which of the two */
+    STAMP_DATETIME_OR_DATETIMETZ = 8   /* readers only: the octets tell which of the two */
+};
+#define STAMP_KINDS 6                  /* kinds that are written: 0 to 5 */
+#define STAMP_READERS 9                /* kinds that are read: 0 to 8 */
+
+/* How it is said. */
+enum {
+    STAMP_TEXT = 0,                    /* ISO 8601 text with 0 to 6 digits of the second */
+    STAMP_COMPACT = 1,                 /* a BER integer of days or milliseconds, behind the offset if there is one */
+    STAMP_EXTENDED = 2                 /* 7 or 10 octets, microseconds; Date and DateTz have no such form */
+};
+#define STAMP_FORMS 3
+
+#define STAMP_LONGEST_IMAGE 32         /* octets: room for every stamp of every kind */
+#define STAMP_MIN_YEAR 1
+#define STAMP_MAX_YEAR 9999
+#define STAMP_END_OF_DAY 86400000000ULL /* microseconds: 24:00, the largest time, which is not 00:00 */
+#define STAMP_MAX_OFFSET 1439          /* minutes ahead of UTC, or behind it as a negative number */
+#define STAMP_MAX_DIGITS 6
+#define STAMP_DEFAULT_DIGITS 3
+#define STAMP_EXTENDED_FROM 35500      /* the first version that may be sent extended forms */
+
+/* ---- Refusals ---- */
+
+/* The one place of each refusal's name, number and sentence; the tool and the man page say the same words. Writers
+ * give 1 to 4, readers 5 to 8, always the first that applies. A kind number that is no kind is 2, in reading too. */
+#define STAMP_REFUSALS(X) \
+    X(STAMP_REFUSED_DIGITS, 1, "the digits setting is above 6") \
+    X(STAMP_REFUSED_VALUE, 2, "a part of the value is out of range, or there is no such day") \
+    X(STAMP_REFUSED_NO_COMPACT, 3, "the value is too late to have a compact form") \
+    X(STAMP_REFUSED_BUFFER, 4, "the buffer is shorter than the stamp") \
+    X(STAMP_REFUSED_LENGTH, 5, "the length is not one that the chosen form of this kind can have") \
+    X(STAMP_REFUSED_OCTET, 6, "a digit, sign or separator of the text is wrong, " \
+                              "or the twelve header bits that must be zero are not") \
+    X(STAMP_REFUSED_REDUNDANT, 7, "an integer is longer than it may be, " \
+                                  "or an offset of zero is written where it must be left out, or as -00:00") \
+    X(STAMP_REFUSED_RANGE, 8, "a field is out of range: there is no such day, time of day or offset, " \
+                              "or no value has such a number")
+
+#define STAMP_REFUSAL_CONSTANT(name, number, sentence) name = number,
+enum { STAMP_REFUSALS(STAMP_REFUSAL_CONSTANT) STAMP_ACCEPTED = 0 };
+#undef STAMP_REFUSAL_CONSTANT
+#define STAMP_LAST_REFUSAL 8
+
+/* ---- The two calls of the library ---- */
+
+#ifdef __cplusplus
+extern "C" {
+#endif
+
+/* Writes a stamp into octets[0 .. room-1]. Answers the refusal number, 0 for none. *count is the stamp's length, and 0
+ * after a refusal. Parts that the kind lacks are ignored. stamp_encode is the same with names. */
+uint32_t stamp_write(uint32_t kind, uint32_t year, uint32_t month, uint32_t day, uint64_t micros, int32_t offset,
+                     bool binary, uint32_t version, uint32_t digits, uint8_t *octets, size_t room, size_t *count);
+
+/* Reads a stamp of exactly `length` octets. Answers the refusal number, 0 for none. parts: kind (0 to 5), form, digits
+ * (0 but for text), year, month, day, micros, offset; each 0 where the kind lacks it. All eight stay as lent after a
+ * refusal. stamp_decode is the same with names. */
+uint32_t stamp_read(uint32_t kind, const uint8_t *octets, size_t length, int64_t parts[8]);
+
+#ifdef __cplusplus
+}
+#endif
+
+/* ---- The same with names ---- */
+
+/* What a stamp says. Any number may stand in any part; a writer refuses what is out of range. */
+typedef struct stamp_value {
+    uint32_t kind;
+    uint32_t year, month, day;         /* Date, DateTz, Datetime, DatetimeTz */
+    uint64_t micros;                   /* of the local day; Time, TimeTz, Datetime, DatetimeTz */
+    int32_t offset;                    /* minutes ahead of UTC; DateTz, TimeTz, DatetimeTz */
+} stamp_value;
+
+/* How to say it. Not binary: text. Binary, version at least 35,500, and digits 6 or time 24:00: extended (but never for
+ * Date and DateTz). Otherwise compact. */
+typedef struct stamp_settings {
+    bool binary;
+    uint32_t version;                  /* of whoever will read it */
+    uint32_t digits;                   /* of the second, 0 to 6; what is beyond them is cut, never rounded up */
+} stamp_settings;
+
+/* What was read, and how it was said. */
+typedef struct stamp_decoded {
+    stamp_value value;                 /* its kind is one of the six, also after an either-or reader */
+    uint32_t form;
+    uint32_t digits;                   /* of a text; 0 for the other forms */
+} stamp_decoded;
+
+static inline stamp_settings stamp_make_settings(bool binary, uint32_t version, uint32_t digits)
+{
+    stamp_settings made;
+    made.binary = binary;
+    made.version = version;
+    made.digits = digits;
+    return made;
+}
+
+/* Text, version 0, three digits. */
+static inline stamp_settings stamp_default_settings(void)
+{
+    return stamp_make_settings(false, 0, STAMP_DEFAULT_DIGITS);
+}
+
+/* The settings that write what was read in the form and digits found, so that the same octets come out. */
+static inline stamp_settings stamp_settings_found(const stamp_decoded *found)
+{
+    if (found->form == STAMP_TEXT)
+        return stamp_make_settings(false, 0, found->digits);
+    if (found->form == STAMP_COMPACT)
+        return stamp_make_settings(true, 0, STAMP_DEFAULT_DIGITS);
+    return stamp_make_settings(true, STAMP_EXTENDED_FROM, STAMP_MAX_DIGITS);
+}
+
+/* stamp_write of a value under settings. */
+static inline uint32_t stamp_encode(const stamp_value *value, stamp_settings settings,
+                                    uint8_t *octets, size_t room, size_t *count)
+{
+    return stamp_write(value->kind, value->year, value->month, value->day, value->micros, value->offset,
+                       settings.binary, settings.version, settings.digits, octets, room, count);
+}
+
+/* stamp_read of a kind's stamp (or an either-or kind's). *found stays as lent after a refusal. */
+static inline uint32_t stamp_decode(uint32_t kind, const uint8_t *octets, size_t length, stamp_decoded *found)
+{
+    int64_t parts[8] = {0};
+    uint32_t refusal = stamp_read(kind, octets, length, parts);
+    if (refusal != STAMP_ACCEPTED)
+        return refusal;
+    found->value.kind = (uint32_t)parts[0];
+    found->form = (uint32_t)parts[1];
+    found->digits = (uint32_t)parts[2];
+    found->value.year = (uint32_t)parts[3];
+    found->value.month = (uint32_t)parts[4];
+    found->value.day = (uint32_t)parts[5];
+    found->value.micros = (uint64_t)parts[6];
+    found->value.offset = (int32_t)parts[7];
+    return STAMP_ACCEPTED;
+}
+
+/* ---- Making values ---- */
+
+static inline stamp_value stamp_make_value(uint32_t kind, uint32_t year, uint32_t month, uint32_t day,
+                                           uint64_t micros, int32_t offset)
+{
+    stamp_value made;
+    made.kind = kind;
+    made.year = year;
+    made.month = month;
+    made.day = day;
+    made.micros = micros;
+    made.offset = offset;
+    return made;
+}
+
+static inline stamp_value stamp_date(uint32_t year, uint32_t month, uint32_t day)
+{
+    return stamp_make_value(STAMP_DATE, year, month, day, 0, 0);
+}
+
+static inline stamp_value stamp_datetz(uint32_t year, uint32_t month, uint32_t day, int32_t offset)
+{
+    return stamp_make_value(STAMP_DATETZ, year, month, day, 0, offset);
+}
+
+static inline stamp_value stamp_time(uint64_t micros)
+{
+    return stamp_make_value(STAMP_TIME, 0, 0, 0, micros, 0);
+}
+
+static inline stamp_value stamp_timetz(uint64_t micros, int32_t offset)
+{
+    return stamp_make_value(STAMP_TIMETZ, 0, 0, 0, micros, offset);
+}
+
+static inline stamp_value stamp_datetime(uint32_t year, uint32_t month, uint32_t day, uint64_t micros)
+{
+    return stamp_make_value(STAMP_DATETIME, year, month, day, micros, 0);
+}
+
+static inline stamp_value stamp_datetimetz(uint32_t year, uint32_t month, uint32_t day, uint64_t micros, int32_t offset)
+{
+    return stamp_make_value(STAMP_DATETIMETZ, year, month, day, micros, offset);
+}
+
+/* The microseconds of the day at hour:minute:second and a fraction in microseconds. Fields that make no time (23:60,
+ * 24:00:01, ..) give a number that no time has, so that the writer refuses it: never another time. */
+static inline uint64_t stamp_micros(uint32_t hour, uint32_t minute, uint32_t second, uint32_t fraction)
+{
+    if (hour > 24 || minute > 59 || second > 59 || fraction > 999999)
+        return STAMP_END_OF_DAY + 1;
+    return (((uint64_t)hour * 60 + minute) * 60 + second) * 1000000 + fraction;
+}
+
+/* ---- Words and lengths ---- */
+
+/* "Date" to "DatetimeTz"; "" for a number that is none of the six kinds. */
+static inline const char *stamp_kind_name(uint32_t kind)
+{
+    static const char *const names[STAMP_KINDS] = {"Date", "DateTz", "Time", "TimeTz", "Datetime", "DatetimeTz"};
+    return kind < STAMP_KINDS ? names[kind] : "";
+}
+
+/* "text", "compact" or "extended"; "" for any other number. */
+static inline const char *stamp_form_name(uint32_t form)
+{
+    static const char *const names[STAMP_FORMS] = {"text", "compact", "extended"};
+    return form < STAMP_FORMS ? names[form] : "";
+}
+
+/* The sentence of a refusal; "accepted" for 0, "no such refusal" above 8. */
+static inline const char *stamp_refusal_sentence(uint32_t refusal)
+{
+#define STAMP_REFUSAL_CASE(name, number, sentence) case number: return sentence;
+    switch (refusal) {
+    STAMP_REFUSALS(STAMP_REFUSAL_CASE)
+    case STAMP_ACCEPTED: return "accepted";
+    default: return "no such refusal";
+    }
+#undef STAMP_REFUSAL_CASE
+}
+
+/* How many octets the text of one of the six kinds has with so many digits; 0 where there is no such text. */
+static inline size_t stamp_text_length(uint32_t kind, uint32_t digits)
+{
+    static const size_t bare[STAMP_KINDS] = {10, 16, 8, 14, 19, 25};
+    if (kind >= STAMP_KINDS || digits > STAMP_MAX_DIGITS)
+        return 0;
+    return kind < STAMP_TIME || digits == 0 ? bare[kind] : bare[kind] + 1 + digits;
+}
+
+#endif

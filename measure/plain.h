@@ -1,0 +1,50 @@
+/* Reads and writes the contents octets of date-and-time stamps: the plain C version.
+ *
+ * C99 with the builtins and attributes that gcc and clang share. No allocation, no state, no library call but
+ * memcpy of a fixed 2, 4 or 8 octets, which compiles to one load or store.
+ *
+ * Kinds: 0 Date, 1 DateTz, 2 Time, 3 TimeTz, 4 Datetime, 5 DatetimeTz. Readers also take 6 Date or DateTz,
+ * 7 Time or TimeTz, 8 Datetime or DatetimeTz.
+ */
+#ifndef PLAIN_H
+#define PLAIN_H
+
+#include <stdbool.h>
+#include <stddef.h>
+#include <stdint.h>
+
+/* Refusal numbers; 0 is none. Writers test 1 to 4 in this order, readers 5 to 8. */
+enum {
+    PLAIN_ACCEPTED = 0,
+    PLAIN_BAD_DIGITS = 1,       /* digits above 6 */
+    PLAIN_BAD_VALUE = 2,        /* a part out of its range, no such day, no such kind */
+    PLAIN_NO_COMPACT = 3,       /* the moment has no compact form */
+    PLAIN_NO_ROOM = 4,          /* the buffer is shorter than the image */
+    PLAIN_BAD_LENGTH = 5,       /* not a length of the chosen form */
+    PLAIN_BAD_OCTET = 6,        /* a wrong digit, sign or separator; reserved bits that are not zero */
+    PLAIN_NOT_SHORTEST = 7,     /* redundant octets, a zero offset that should have been left out, -00:00 */
+    PLAIN_OUT_OF_RANGE = 8      /* a field read is out of its range */
+};
+
+/* Places in the parts of an accepted read. */
+enum { PLAIN_KIND, PLAIN_FORM, PLAIN_DIGITS, PLAIN_YEAR, PLAIN_MONTH, PLAIN_DAY, PLAIN_MICROS, PLAIN_OFFSET };
+
+/* Forms. */
+enum { PLAIN_TEXT, PLAIN_COMPACT, PLAIN_EXTENDED };
+
+/* The refusal number. *count is the image's length, and 0 after a refusal, which leaves the octets as lent; octets
+ * past the image are never touched. Parts that the kind lacks are ignored. No such kind is refusal 2, after 1. */
+uint32_t plain_write(uint32_t kind, uint32_t year, uint32_t month, uint32_t day, uint64_t micros, int32_t offset,
+                     bool binary, uint32_t version, uint32_t digits, uint8_t *octets, size_t room, size_t *count);
+
+/* The refusal number. Parts: kind 0 to 5, form, digits (0 but for text), year, month, day, micros, offset, each 0
+ * where the kind lacks it; as lent after a refusal. No such kind is refusal 2, before the octets are looked at. */
+uint32_t plain_read(uint32_t kind, const uint8_t *octets, size_t length, int64_t parts[8]);
+
+/* The day number of a date, 0 for 0001-01-01; -1 for no such day. */
+int32_t plain_day_number(uint32_t year, uint32_t month, uint32_t day);
+
+/* The date of a day number as year * 10000 + month * 100 + day; 0 for no such number. */
+uint32_t plain_date_of(uint32_t number);
+
+#endif

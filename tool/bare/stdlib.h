@@ -1,0 +1,7 @@
+/* See stdio.h beside this file. */
+#ifndef BARE_STDLIB_H
+#define BARE_STDLIB_H
+
+void exit(int status);
+
+#endif

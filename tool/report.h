@@ -1,0 +1,31 @@
+/* What the tool prints: a line an answer, for people or as JSON. */
+#ifndef TOOL_REPORT_H
+#define TOOL_REPORT_H
+
+#include "records.h"
+
+typedef struct report {
+    bool json;
+    const char *place;      /* what a record's number counts ("line"), or null where there is only one record */
+} report;
+
+/* What an answer is about, beside the record. */
+typedef struct about {
+    const char *reader;     /* explain: the reader that answers; otherwise null */
+    const record *given;    /* write: the text of the value; otherwise null */
+    bool exact;             /* write: the stamp keeps the whole value given */
+} about;
+
+/* The heading of a record whose readers' answers follow, each by its name. */
+void report_heading(const report *how, const record *of);
+
+/* An accepted stamp: kind, form, digits, value, octets. */
+void report_stamp(const report *how, const record *of, const stamp_decoded *found,
+                  const uint8_t *octets, size_t length, about more);
+
+void report_refusal(const report *how, const record *of, uint32_t refusal, about more);
+
+/* A record that is not hex. */
+void report_fault(const report *how, const record *of);
+
+#endif
