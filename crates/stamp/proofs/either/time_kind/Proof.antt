@@ -1,4 +1,6 @@
 -- `time_kind` meets its contract: the first rule that fits, by the length; 7 octets by themselves. Assumes nothing.
+use native.Mathlib.Omega.{arith}
+use lib.ListN.{length}
 use borrow.Author.Tests.{le-leb, lt-leb, eq-eqb, ne-eqb}
 use Rattle.format.specs.EitherOr.{kindIn}
 use borrow.Author.Needs.{needs}
@@ -7,7 +9,7 @@ use Rattle.stamp.proofs.either.time_kind.Tie as tie
 
 returns : tie.Need-returns
 unfolding kindIn
-returns c = rw (le-leb _ _ (c .if1 .taken))
+returns c = rw (le-leb (length (c .before .before .args .s .now)) 4 (omega arith))
 
 returns-2 : tie.Need-returns-2
 unfolding kindIn

@@ -84,7 +84,7 @@ unfolding readIn
 returns-5 c =
     let r = c .before in
     let z = r .before .before in
-    rw (← found (z .before .before), read (z .before .before), sym (z .before .is-minus-zero .ensures) ∙ z .if2 .left, sym (r .before .in-range .ensures) ∙ not-false _ (r .if3 .left), c .value .ensures)
+    rw (← found (z .before .before), read (z .before .before), sym (z .before .is-minus-zero .ensures) ∙ z .if2 .left, sym (r .before .in-range .ensures) ∙ not-false _ (r .if3 .left), ← c .value .ensures)
 
 pub read-text-spec : {M : Type 1} → statement M
 read-text-spec =
