@@ -1,0 +1,38 @@
+/* Calls and answers in words, for differences. */
+#ifndef MASS_DESCRIBE_H
+#define MASS_DESCRIBE_H
+
+#include "check.h"
+
+#define GUARD 8                        /* octets before and after what is lent */
+#define LENT_PART (-7000000000000000000) /* what is in a part before the call: far from every answer */
+
+typedef struct write_answer {
+    uint32_t refusal;
+    size_t count;
+    uint8_t area[GUARD + LONGEST_TRIED + GUARD];
+} write_answer;
+
+typedef struct read_answer {
+    uint32_t refusal;
+    int64_t parts[1 + 8 + 1];          /* a guard, the eight, a guard */
+} read_answer;
+
+/* True where the part is as it was lent; each of the ten was lent another number. */
+static inline bool part_is_as_lent(const read_answer *answer, int part)
+{
+    return answer->parts[part] == LENT_PART - part;
+}
+
+/* Text that grows up to DIFFERENCE_ROOM; what is beyond is left out. */
+typedef struct words {
+    char *text;
+    size_t length;
+} words;
+
+void say_call(words *to, const call *made);
+void say_write(words *to, const char *who, const write_answer *answer);
+/* A part that is as lent is a dash. */
+void say_read(words *to, const char *who, const read_answer *answer);
+
+#endif

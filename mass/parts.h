@@ -1,0 +1,34 @@
+/* The parts of the comparison. Each is cut into units of work, numbered from 0, that may be done in any order. */
+#ifndef MASS_PARTS_H
+#define MASS_PARTS_H
+
+#include "chance.h"
+
+#define DATE_UNITS 10001               /* short.c to chances.c say what a unit is */
+#define DAY_NUMBER_UNITS 256
+#define SHORT_UNITS 257
+#define OFFSET_UNITS 3001
+#define OFFSET_FIELD_UNITS 256
+#define TEXT_FIELD_UNITS 100
+#define MILLISECOND_UNITS 86401
+#define FRACTION_UNITS 1000
+#define CHANCE_ROUNDS 10000            /* rounds in a unit of the last three */
+
+void try_short(uint64_t unit, chance *by);
+void try_dates(uint64_t unit, chance *by);
+void try_day_numbers(uint64_t unit, chance *by);
+void try_offsets(uint64_t unit, chance *by);
+void try_offset_fields(uint64_t unit, chance *by);
+void try_text_fields(uint64_t unit, chance *by);
+void try_milliseconds(uint64_t unit, chance *by);
+void try_fractions(uint64_t unit, chance *by);
+void try_numbers_at_edges(uint64_t unit, chance *by);
+void try_moments_at_edges(uint64_t unit, chance *by);
+void try_mutated(uint64_t unit, chance *by);
+void try_random_octets(uint64_t unit, chance *by);
+void try_random_values(uint64_t unit, chance *by);
+
+uint64_t number_edge_units(void);
+uint64_t moment_edge_units(void);
+
+#endif
