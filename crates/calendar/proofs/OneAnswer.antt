@@ -6,7 +6,7 @@ use Rattle.format.specs.Calendar.{Day}
 use Rattle.format.specs.Promises.{OneAnswer}
 use Rattle.format.proofs.Promises.{equal-one, meaning-one}
 use Rattle.calendar.specs.Meaning.{numbered, dated}
-use Rattle.calendar.specs.Calls.{DateNew, DateInRange, DayNumber, DateOf}
+use Rattle.calendar.specs.Calls.{DateNew, DateInRange, DayNumber, DateOf, YearStart}
 use Rattle.calendar.specs.declared.Date.{Date}
 use Rattle.calendar.specs.declared.Numbered.{Numbered}
 use Rattle.calendar.specs.declared.Numbered.the-variants as N
@@ -42,3 +42,6 @@ one-day-number d = meaning-one numbered numberedOf numbered-back _
 
 pub one-date-of : (n : ℕ) → OneAnswer (DateOf n)
 one-date-of n = meaning-one dated datedOf dated-back _
+
+pub one-year-start : (years : ℕ) → OneAnswer (YearStart years)
+one-year-start years = equal-one _

@@ -5,10 +5,11 @@
 --   DateInRange d r     `Date::in_range`: whether there is such a day in the years 1 to 9999
 --   DayNumber d r       `day_number`: the date's day number, or refusal 2
 --   DateOf n r          `date_of`: the date of the day number, or refusal 2
-use Prim.Native.Nat.{ℕ}
+--   YearStart y r       `year_start`: the days before the years that y has beyond whole cycles of 400, counted from the start of their cycle
+use Prim.Native.Nat.{ℕ, _%_}
 use mathlib.Core.Path.{_≡_}
 use mathlib.Core.Bool.{Bool}
-use Rattle.format.specs.Calendar.{isDay, numberAsked, dayAsked}
+use Rattle.format.specs.Calendar.{yearStart, isDay, numberAsked, dayAsked}
 use Rattle.calendar.specs.declared.Date.{Date}
 use Rattle.calendar.specs.declared.Numbered.{Numbered}
 use Rattle.calendar.specs.declared.Dated.{Dated}
@@ -29,3 +30,7 @@ DayNumber d r = numbered r ≡ numberAsked (dayFrom d)
 -- the date of a day number, where there is one
 abbrev pub DateOf : ℕ → Dated → Type 0
 DateOf n r = dated r ≡ dayAsked n
+
+-- the days before the years of the last cycle
+abbrev pub YearStart : ℕ → ℕ → Type 0
+YearStart y r = r ≡ yearStart (y % 400)

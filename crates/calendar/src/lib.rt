@@ -7,7 +7,7 @@ ghost use Rattle.format.specs.Walk.{sumFrom, place};
 ghost use Rattle.format.specs.Calendar.{leap, yearLength, isDay, dayNumber, dayIn};
 ghost use Rattle.calendar.specs.Meaning.{dayFrom};
 ghost use Rattle.calendar.specs.Steps.{placeFrom, Guessed};
-ghost use Rattle.calendar.specs.Calls.{DateNew, DateInRange, DayNumber, DateOf};
+ghost use Rattle.calendar.specs.Calls.{DateNew, DateInRange, DayNumber, DateOf, YearStart};
 
 mod months;
 mod year_starts;
@@ -100,6 +100,13 @@ fn days_before_years(years: u32) -> u32
     ensures { λ r. ⌜ r ≡ sumFrom yearLength 0 years ⌝ }
 {
     years / CYCLE_YEARS * CYCLE_DAYS + year_starts::entry(years % CYCLE_YEARS)
+}
+
+// The days before that many years of a cycle, whole cycles left out: the table alone, so that what the array costs can be measured by itself.
+pub fn year_start(years: u32) -> u32
+    ensures { λ r. ⌜ YearStart years r ⌝ }
+{
+    year_starts::entry(years % CYCLE_YEARS)
 }
 
 // The day number, where there is such a day.

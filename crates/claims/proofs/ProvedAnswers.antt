@@ -6,7 +6,7 @@ use Rattle.boundary.proofs.OneAnswer.{one-stamp-write, one-stamp-read}
 use Rattle.claims.specs.OneAnswer.{CalendarAnswers, PartsAnswers, SettingsAnswers, WritersAnswers, ReadersAnswers, BoundaryAnswers}
 
 pub calendar-answers : CalendarAnswers
-calendar-answers = (calendar.one-new, calendar.one-in-range, calendar.one-day-number, calendar.one-date-of)
+calendar-answers = (calendar.one-new, calendar.one-in-range, calendar.one-day-number, calendar.one-date-of, calendar.one-year-start)
 
 pub parts-answers : PartsAnswers
 parts-answers = (

@@ -8,7 +8,7 @@ use mathlib.Core.List.{List}
 use lib.IntN.{ℤ}
 use Rattle.format.specs.Promises.{OneAnswer}
 use Rattle.calendar.specs.declared.Date.{Date}
-use Rattle.calendar.specs.Calls.{DateNew, DateInRange, DayNumber, DateOf}
+use Rattle.calendar.specs.Calls.{DateNew, DateInRange, DayNumber, DateOf, YearStart}
 use Rattle.values.specs.declared.parts.Time.{Time}
 use Rattle.values.specs.declared.parts.Offset.{Offset}
 use Rattle.values.specs.declared.kinds.DateTz.{DateTz}
@@ -35,6 +35,7 @@ CalendarAnswers =
     × ((d : Date) → OneAnswer (DateInRange d))
     × ((d : Date) → OneAnswer (DayNumber d))
     × ((n : ℕ) → OneAnswer (DateOf n))
+    × ((y : ℕ) → OneAnswer (YearStart y))
 
 abbrev pub PartsAnswers : Type 0
 PartsAnswers =

@@ -1,0 +1,120 @@
+#!/usr/bin/env python3
+"""Runs the driver of `make measure` in several processes, and writes the table of medians to docs/MEASURE.md.
+
+usage: run.py PROGRAM [PROCESSES]"""
+import os
+import platform
+import subprocess
+import sys
+from pathlib import Path
+from statistics import median
+
+ARRAY_ROW = 'year start of the cycle'  # ours reads the array, plain has the formula: the difference is what the array costs
+SLOWER = 1.05
+
+
+def run(program):
+    """What one process prints: what was compiled, and name -> (reads the array, ours, plain), in nanoseconds."""
+    about, rows = {}, {}
+    done = subprocess.run([program], stdout=subprocess.PIPE, text=True)
+    if done.returncode != 0:
+        sys.exit(f'run.py: {program} failed; nothing is written')
+    for line in done.stdout.splitlines():
+        name, *cells = line.split('\t')
+        if len(cells) == 1:
+            about[name] = cells[0]
+        else:
+            rows[name] = (cells[0] == '1', float(cells[1]), float(cells[2]))
+    return about, rows
+
+
+class Row:
+    """One row over all processes: medians, and the ratio as the median of the processes' own ratios."""
+
+    def __init__(self, name, runs):
+        own = [rows[name] for rows in runs]
+        self.name = name
+        self.ours = median(ours for _, ours, _ in own)
+        self.plain = median(plain for _, _, plain in own)
+        ratios = [ours / plain for _, ours, plain in own]
+        self.ratio = median(ratios)
+        self.spread = (max(ratios) - min(ratios)) / self.ratio
+        self.without = None
+        if own[0][0] and name != ARRAY_ROW:
+            self.without = median((rows[name][1] - array_cost(rows)) / rows[name][2] for rows in runs)
+
+    def slower(self):
+        """Slower than plain, and not for the array alone."""
+        return self.name != ARRAY_ROW and (self.ratio if self.without is None else self.without) > SLOWER
+
+    def line(self):
+        ratio = f'{self.ratio:.2f}'
+        without = '' if self.without is None else f'{self.without:.2f}'
+        if self.slower():
+            ratio, without = (f'**{ratio}**', '') if self.without is None else (ratio, f'**{without}**')
+        return f'| {self.name} | {self.ours:.1f} | {self.plain:.1f} | {ratio} | {without} |'
+
+
+def array_cost(rows):
+    _, array, formula = rows[ARRAY_ROW]
+    return array - formula
+
+
+def processor():
+    """The model's name; Arm gives numbers instead."""
+    facts = {}
+    for line in Path('/proc/cpuinfo').read_text().splitlines():
+        key, _, value = line.partition(':')
+        facts.setdefault(key.strip(), value.strip())
+    if 'model name' in facts:
+        return facts['model name']
+    return f"implementer {facts.get('CPU implementer', '?')}, part {facts.get('CPU part', '?')}"
+
+
+def machine():
+    if platform.machine() == 'x86_64':
+        return 'x86-64; measured is the delivered archive, `libstamp.a`'
+    return f'{platform.machine()}; measured is the bitcode of the delivered archive, compiled for this machine (`measure/native-archive`)'
+
+
+def page(about, rows, runs, load):
+    spreads = sorted(row.spread for row in rows)
+    cost = median(array_cost(each) for each in runs)
+    return '\n'.join([
+        '# Measure',
+        '',
+        'Our calls beside a plain C version of the same work (`measure/plain.c`). `make measure` writes this page; nothing in it is written by hand.',
+        '',
+        f'- Processor: {processor()}, {os.cpu_count()} of them; load average {load:.2f} at the start.',
+        f'- Machine: {machine()}.',
+        f"- Compiler: the kit's {about['compiler']}, for both.",
+        f"- How: {len(runs)} processes, one after the other. In each, {int(about['values']):,} values a row, ours and plain in turns, {about['turns']} "
+        'turns; a time is the median of the turns, and here the median of the processes. Both give the same answers to these values, or nothing is '
+        'measured.',
+        f'- Ratio: ours by plain, the median of the processes, among which it moved by {100 * median(spreads):.0f} % at the median row, by '
+        f'{100 * spreads[-1]:.0f} % at the worst. Above {SLOWER} ours is slower; between 1 and {SLOWER} the difference may be chance.',
+        '- Without the array: a call with a date in a binary form, and the calendar, read the array of 400 year starts once, and it is built anew at '
+        f'each use. Measured by itself (the last row), that takes {cost:.1f} ns more than the formula. The column is (ours - these) / plain.',
+        '',
+        '| Call | Ours, ns | Plain, ns | Ratio | Without the array |',
+        '|---|---:|---:|---:|---:|',
+        *[row.line() for row in rows],
+        '',
+        f'Bold: slower than plain, and not for the array alone: {sum(row.slower() for row in rows)} of {len(rows) - 1}. '
+        '(The last row is the array by itself.)',
+        ''])
+
+
+def main():
+    if len(sys.argv) not in (2, 3):
+        sys.exit(__doc__)
+    load = os.getloadavg()[0]
+    results = [run(sys.argv[1]) for _ in range(int(sys.argv[2]) if len(sys.argv) == 3 else 9)]
+    runs = [rows for _, rows in results]
+    text = page(results[0][0], [Row(name, runs) for name in runs[0]], runs, load)
+    (Path(__file__).resolve().parent.parent / 'docs' / 'MEASURE.md').write_text(text)
+    print(text, end='')
+
+
+if __name__ == '__main__':
+    main()
