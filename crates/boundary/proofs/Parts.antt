@@ -1,5 +1,5 @@
 -- The eight numbers as the machine casts them, and that the microseconds of what is read are few enough for that. Assumes nothing.
-use mathlib.Core.Path.{_≡_, ap}
+use mathlib.Core.Path.{_≡_, sym, ap}
 use mathlib.Core.Bool.{Bool, true, false}
 use mathlib.Core.List.{List, [], _∷_}
 use Prim.Native.Nat.{ℕ, _<_, _≤_, _^_}
@@ -15,6 +15,10 @@ use Rattle.format.specs.Calendar.{isDay}
 use Rattle.format.specs.Values.{Kind, dated, timed, Value, endOfDay, timeInRange, inRange, Answer}
 use Rattle.format.specs.Reading.{read}
 use Rattle.format.specs.Keeping.{own}
+use Rattle.values.specs.declared.answers.Parsed.{Parsed}
+use Rattle.values.specs.declared.answers.Parsed.the-variants as P
+use Rattle.values.specs.Answers.{parsed}
+use Rattle.boundary.specs.Boundary.{timeFits}
 use Rattle.format.proofs.Cases.{both-true}
 use Rattle.format.proofs.Round.{was-read}
 use Rattle.format.proofs.Kept.{read-owned}
@@ -57,3 +61,8 @@ unfolding inRange own
 micros-read k xs a o e =
     let r = both-true (needs (dated k) (isDay (a .value .date))) _ (was-read k xs a o e .from .range) .1 in
     few (timed k) (a .value .micros) (ap (λ (v : Value). v .micros) (read-owned k xs a o e)) (both-true (needs (timed k) (timeInRange (a .value .micros))) _ r .0)
+
+-- so a stamp that was parsed hands over a time in range
+pub time-fits : (k : Kind) (xs : List ℕ) (p : Parsed) → Octets xs → parsed k p ≡ read k xs → timeFits p
+time-fits k xs (P.Stamp f v) o e = micros-read k xs _ o (sym e)
+time-fits k xs (P.Refused r) o e = omega arith

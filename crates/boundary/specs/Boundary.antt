@@ -13,20 +13,24 @@
 --                       in what is read it is 0 already (`read-owned`, format/proofs/Kept)
 --   partsAfter o lent   the eight numbers after a call: the answer's, or as lent after a refusal
 --   WritesNumbered      the promise of `stamp_write`, by the kind's number, settings and value: the number answered, *count and every octet
+--   Hands o lent r left what is handed over of an outcome: the number answered and all eight parts
+--   timeFits p          what was read has a time in range
 --   ReadsNumbered       the promise of `stamp_read`, by the number and the octets: the number answered and all eight parts
-use Prim.Native.Nat.{ℕ}
+use Prim.Native.Nat.{ℕ, _≤_}
 use mathlib.Core.Path.{_≡_}
 use mathlib.Core.List.{List, [], _∷_}
 use lib.IntN.{ℤ, pos}
 use lib.Dec.{eqb}
 use Rattle.format.specs.Words.{pick, Outcome, accepted, refused, unless}
-use Rattle.format.specs.Values.{Kind, Date, DateTz, Time, TimeTz, Datetime, DatetimeTz, Value, Settings, digitsInRange, Form, text, compact, extended, Answer}
+use Rattle.format.specs.Values.{Kind, Date, DateTz, Time, TimeTz, Datetime, DatetimeTz, Value, endOfDay, Settings, digitsInRange, Form, text, compact, extended, Answer}
 use Rattle.format.specs.Promises.{numberOf}
 use Rattle.format.specs.Writing.{encode}
 use Rattle.format.specs.Reading.{read}
 use Rattle.format.specs.EitherOr.{DateOrTz, TimeOrTz, DatetimeOrTz, readEither}
 use Rattle.values.specs.Meaning.{kindFrom}
 use Rattle.values.specs.Promise.{Left}
+use Rattle.values.specs.declared.answers.Parsed.{Parsed}
+use Rattle.values.specs.declared.answers.Parsed.the-variants as P
 use Rattle.boundary.specs.declared.Known.{Known}
 use Rattle.boundary.specs.declared.Known.the-variants as K
 
@@ -97,6 +101,15 @@ abbrev pub partsAfter : Outcome Answer → List ℤ → List ℤ
 partsAfter (accepted a) lent = partsOf a
 partsAfter (refused n) lent = lent
 
-pub record ReadsNumbered (n : ℕ) (s : List ℕ) (lent : List ℤ) (r : ℕ) (left : List ℤ) : Type 0 where
-  pub number : r ≡ numberOf (readingOf n s)
-  pub parts : left ≡ partsAfter (readingOf n s) lent
+-- the number answered and the parts left
+pub record Hands (o : Outcome Answer) (lent : List ℤ) (r : ℕ) (left : List ℤ) : Type 0 where
+  pub number : r ≡ numberOf o
+  pub parts : left ≡ partsAfter o lent
+
+abbrev pub ReadsNumbered : ℕ → List ℕ → List ℤ → ℕ → List ℤ → Type 0
+ReadsNumbered n s lent r left = Hands (readingOf n s) lent r left
+
+-- what was read has a time in range
+abbrev pub timeFits : Parsed → Type 0
+timeFits (P.Stamp f v) = v .time .micros ≤ endOfDay
+timeFits (P.Refused r) = 0 ≤ 0

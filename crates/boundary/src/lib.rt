@@ -2,9 +2,11 @@
 ghost use mathlib.Core.Path.{_≡_};
 ghost use Prim.Native.Nat.{_≤_};
 ghost use Rattle.format.specs.Values.{endOfDay};
+ghost use Rattle.format.specs.Reading.{read};
 ghost use Rattle.values.specs.Meaning.{kindFrom, formFrom, settingsFrom, valueFrom};
+ghost use Rattle.values.specs.Answers.{parsed};
 ghost use Rattle.values.specs.Promise.{Writes};
-ghost use Rattle.boundary.specs.Boundary.{kindNumbered, known, writing, WritesNumbered, readingAs, readingOf, kindNumber, formNumber, formDigits, partsOf, ReadsNumbered};
+ghost use Rattle.boundary.specs.Boundary.{kindNumbered, known, writing, WritesNumbered, readingAs, readingOf, kindNumber, formNumber, formDigits, partsOf, timeFits, Hands, ReadsNumbered};
 use calendar::Date;
 use values::Form;
 use values::Kind;
@@ -147,7 +149,34 @@ fn put_parts(parts: &mut [i64; 8], kind: Kind, form: Form, value: Value)
     *parts = [kind, form, digits, year, month, day, micros, minutes];
 }
 
-// One call of the reader, whatever the kind: it is chosen first.
+// What was read, as numbers; after a refusal the parts stay as they are.
+fn hand_over(parts: &mut [i64; 8], kind: Kind, found: Parsed) -> u32
+    requires { ⌜ timeFits found ⌝ }
+    ensures { λ r. ⌜ Hands (parsed (kindFrom kind) found) (now (parts .entry)) r (now (parts .exit)) ⌝ }
+{
+    match found {
+        Parsed::Stamp(form, value) => {
+            put_parts(parts, kind, form, value);
+            0
+        }
+        Parsed::Refused(refusal) => refusal.number(),
+    }
+}
+
+// One call of each reader, each with its kind written out: so the kind costs nothing.
+fn read_known(kind: Kind, octets: &[u8], parts: &mut [i64; 8]) -> u32
+    ensures { λ r. ⌜ Hands (read (kindFrom kind) (now (octets .entry))) (now (parts .entry)) r (now (parts .exit)) ⌝ }
+{
+    match kind {
+        Kind::Date => hand_over(parts, Kind::Date, stamp::parse_date(octets)),
+        Kind::DateTz => hand_over(parts, Kind::DateTz, stamp::parse_date_tz(octets)),
+        Kind::Time => hand_over(parts, Kind::Time, stamp::parse_time(octets)),
+        Kind::TimeTz => hand_over(parts, Kind::TimeTz, stamp::parse_time_tz(octets)),
+        Kind::Datetime => hand_over(parts, Kind::Datetime, stamp::parse_datetime(octets)),
+        Kind::DatetimeTz => hand_over(parts, Kind::DatetimeTz, stamp::parse_datetime_tz(octets)),
+    }
+}
+
 #[no_mangle]
 pub extern "C" fn stamp_read(kind: u32, octets: &[u8], parts: &mut [i64; 8]) -> u32
     ensures { λ r. ⌜ ReadsNumbered kind (now (octets .entry)) (now (parts .entry)) r (now (parts .exit)) ⌝ }
@@ -155,11 +184,5 @@ pub extern "C" fn stamp_read(kind: u32, octets: &[u8], parts: &mut [i64; 8]) -> 
     let Known::Kind(found) = kind_in(kind, octets) else {
         return Refusal::Value.number();
     };
-    match stamp::read(found, octets) {
-        Parsed::Stamp(form, value) => {
-            put_parts(parts, found, form, value);
-            0
-        }
-        Parsed::Refused(refusal) => refusal.number(),
-    }
+    read_known(found, octets, parts)
 }

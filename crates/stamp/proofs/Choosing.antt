@@ -6,9 +6,10 @@ use Prim.Native.Nat.{ℕ, _<_, _≤_}
 use lib.Dec.{leb, eqb}
 use lib.ListN.{length}
 use borrow.Author.Tests.{le-leb, lt-leb, leb-true}
-use Rattle.format.specs.Words.{both, ifAny, Outcome, accepted}
+use Rattle.format.specs.Words.{both, ifAny, Outcome, accepted, refused}
 use Rattle.format.specs.Values.{Kind, timed, Value, Settings, digitsInRange, Form, text, compact, extended, Answer}
 use Rattle.format.specs.Choice.{formFor, kindHas}
+use Rattle.format.specs.Writing.{encodeIn, encode}
 use Rattle.format.specs.TextReading.{digitsFound}
 use Rattle.format.specs.CompactReading.{longest}
 use Rattle.format.specs.Extended.{headBits}
@@ -30,6 +31,17 @@ module _ (k : Kind) (s : List ℕ) where
   pub as-text : longest k < length s → both (timed k) (eqb (firstBits s) (headBits k)) ≡ false → read k s ≡ readAs k (text (digitsFound k (length s))) s
   unfolding read formIn
   as-text h e = rw (lt-leb (length s) (longest k) h, e)
+
+-- ---- writing: the digits come first, whatever the kind and the form
+
+module _ (k : Kind) (t : Settings) (v : Value) where
+  pub too-many : digitsInRange (t .digits) ≡ false → encode k t v ≡ refused 1
+  unfolding encode
+  too-many e = rw e
+
+  pub in-form : digitsInRange (t .digits) ≡ true → encode k t v ≡ encodeIn k (formFor k t v) v
+  unfolding encode
+  in-form e = rw e
 
 -- ---- writing: a chosen form is one that the kind has
 

@@ -1,14 +1,10 @@
 // Reading, whatever the kind: the form is chosen, then 5, 6, 7, 8 in order, each over the whole input before the next. Nothing is copied, and
 // no octet past the longest image is looked at.
 ghost use mathlib.Core.Path.{_≡_};
-ghost use Prim.Native.Nat.{_<_};
-ghost use lib.Dec.{eqb};
 ghost use lib.ListN.{length};
-ghost use Rattle.format.specs.Words.{both};
 ghost use Rattle.format.specs.Values as format;
 ghost use Rattle.format.specs.TextReading.{digitsFound};
-ghost use Rattle.format.specs.Extended.{headBits};
-ghost use Rattle.format.specs.Reading.{firstBits, readAs};
+ghost use Rattle.format.specs.Reading.{readAs, read};
 ghost use Rattle.values.specs.Meaning.{kindFrom};
 ghost use Rattle.values.specs.Promise.{Parses};
 ghost use Rattle.stamp.specs.Calls.{ParsesKind};
@@ -73,25 +69,83 @@ fn read_extended(kind: Kind, s: &[u8]) -> Parsed
     Parsed::Stamp(Form::Extended, value)
 }
 
-// Whether octets that are too many for compact are extended.
-fn is_extended(kind: Kind, s: &[u8]) -> bool
-    requires { ⌜ 0 < length (now s) ⌝ }
-    ensures { λ r. ⌜ r ≡ both (format.timed (kindFrom kind)) (eqb (firstBits (now (s .entry))) (headBits (kindFrom kind))) ⌝ }
+// One function a kind: what is known of the kind then costs nothing. 01's table: so many octets are compact; of more, those with the kind's first
+// bits are extended, and the others text.
+pub fn parse_date(s: &[u8]) -> Parsed
+    ensures { λ r. ⌜ Parses format.Date (read format.Date (now (s .entry))) r ⌝ }
 {
-    if !kind.timed() {
-        return false;
+    if s.len() <= compact::longest(Kind::Date) {
+        return read_compact(Kind::Date, s);
     }
-    extended::heads(kind, s[0])
+    read_text(Kind::Date, s)
+}
+
+pub fn parse_date_tz(s: &[u8]) -> Parsed
+    ensures { λ r. ⌜ Parses format.DateTz (read format.DateTz (now (s .entry))) r ⌝ }
+{
+    if s.len() <= compact::longest(Kind::DateTz) {
+        return read_compact(Kind::DateTz, s);
+    }
+    read_text(Kind::DateTz, s)
+}
+
+pub fn parse_time(s: &[u8]) -> Parsed
+    ensures { λ r. ⌜ Parses format.Time (read format.Time (now (s .entry))) r ⌝ }
+{
+    if s.len() <= compact::longest(Kind::Time) {
+        return read_compact(Kind::Time, s);
+    }
+    if extended::heads(Kind::Time, s[0]) {
+        return read_extended(Kind::Time, s);
+    }
+    read_text(Kind::Time, s)
+}
+
+pub fn parse_time_tz(s: &[u8]) -> Parsed
+    ensures { λ r. ⌜ Parses format.TimeTz (read format.TimeTz (now (s .entry))) r ⌝ }
+{
+    if s.len() <= compact::longest(Kind::TimeTz) {
+        return read_compact(Kind::TimeTz, s);
+    }
+    if extended::heads(Kind::TimeTz, s[0]) {
+        return read_extended(Kind::TimeTz, s);
+    }
+    read_text(Kind::TimeTz, s)
+}
+
+pub fn parse_datetime(s: &[u8]) -> Parsed
+    ensures { λ r. ⌜ Parses format.Datetime (read format.Datetime (now (s .entry))) r ⌝ }
+{
+    if s.len() <= compact::longest(Kind::Datetime) {
+        return read_compact(Kind::Datetime, s);
+    }
+    if extended::heads(Kind::Datetime, s[0]) {
+        return read_extended(Kind::Datetime, s);
+    }
+    read_text(Kind::Datetime, s)
+}
+
+pub fn parse_datetime_tz(s: &[u8]) -> Parsed
+    ensures { λ r. ⌜ Parses format.DatetimeTz (read format.DatetimeTz (now (s .entry))) r ⌝ }
+{
+    if s.len() <= compact::longest(Kind::DatetimeTz) {
+        return read_compact(Kind::DatetimeTz, s);
+    }
+    if extended::heads(Kind::DatetimeTz, s[0]) {
+        return read_extended(Kind::DatetimeTz, s);
+    }
+    read_text(Kind::DatetimeTz, s)
 }
 
 pub fn read(kind: Kind, s: &[u8]) -> Parsed
     ensures { λ r. ⌜ ParsesKind kind (now (s .entry)) r ⌝ }
 {
-    if s.len() <= compact::longest(kind) {
-        return read_compact(kind, s);
+    match kind {
+        Kind::Date => parse_date(s),
+        Kind::DateTz => parse_date_tz(s),
+        Kind::Time => parse_time(s),
+        Kind::TimeTz => parse_time_tz(s),
+        Kind::Datetime => parse_datetime(s),
+        Kind::DatetimeTz => parse_datetime_tz(s),
     }
-    if is_extended(kind, s) {
-        return read_extended(kind, s);
-    }
-    read_text(kind, s)
 }

@@ -5,7 +5,6 @@ use calendar::Date;
 use values::DateTz;
 use values::Datetime;
 use values::DatetimeTz;
-use values::Kind;
 use values::Offset;
 use values::Settings;
 use values::Time;
@@ -21,7 +20,7 @@ pub fn write_date(value: Date, settings: Settings, buf: &mut [u8]) -> Written
         time: Time::new(0),
         offset: Offset::new(0),
     };
-    writing::write(Kind::Date, all, settings, buf)
+    writing::encode_date(all, settings, buf)
 }
 
 pub fn write_date_tz(value: DateTz, settings: Settings, buf: &mut [u8]) -> Written
@@ -34,7 +33,7 @@ pub fn write_date_tz(value: DateTz, settings: Settings, buf: &mut [u8]) -> Writt
         time: Time::new(0),
         offset,
     };
-    writing::write(Kind::DateTz, all, settings, buf)
+    writing::encode_date_tz(all, settings, buf)
 }
 
 pub fn write_time(value: Time, settings: Settings, buf: &mut [u8]) -> Written
@@ -45,7 +44,7 @@ pub fn write_time(value: Time, settings: Settings, buf: &mut [u8]) -> Written
         time: value,
         offset: Offset::new(0),
     };
-    writing::write(Kind::Time, all, settings, buf)
+    writing::encode_time(all, settings, buf)
 }
 
 pub fn write_time_tz(value: TimeTz, settings: Settings, buf: &mut [u8]) -> Written
@@ -58,7 +57,7 @@ pub fn write_time_tz(value: TimeTz, settings: Settings, buf: &mut [u8]) -> Writt
         time,
         offset,
     };
-    writing::write(Kind::TimeTz, all, settings, buf)
+    writing::encode_time_tz(all, settings, buf)
 }
 
 pub fn write_datetime(value: Datetime, settings: Settings, buf: &mut [u8]) -> Written
@@ -71,7 +70,7 @@ pub fn write_datetime(value: Datetime, settings: Settings, buf: &mut [u8]) -> Wr
         time,
         offset: Offset::new(0),
     };
-    writing::write(Kind::Datetime, all, settings, buf)
+    writing::encode_datetime(all, settings, buf)
 }
 
 pub fn write_datetime_tz(value: DatetimeTz, settings: Settings, buf: &mut [u8]) -> Written
@@ -81,5 +80,5 @@ pub fn write_datetime_tz(value: DatetimeTz, settings: Settings, buf: &mut [u8]) 
     let time = value.time;
     let offset = value.offset;
     let all = Value { date, time, offset };
-    writing::write(Kind::DatetimeTz, all, settings, buf)
+    writing::encode_datetime_tz(all, settings, buf)
 }

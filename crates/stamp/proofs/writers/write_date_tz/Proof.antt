@@ -6,8 +6,8 @@ use Rattle.stamp.proofs.writers.write_date_tz.Tie as tie
 new-requires : tie.Need-new-requires
 new-requires c κs = search needs
 
-write-requires : tie.Need-write-requires
-write-requires c κs = search needs
+encode-date-tz-requires : tie.Need-encode-date-tz-requires
+encode-date-tz-requires c κs = search needs
 
 same-length : tie.Need-same-length
 same-length c = search needs
@@ -15,7 +15,7 @@ same-length c = search needs
 returns : tie.Need-returns
 returns c =
     let w = c .before .before in
-    rw (w .before .before .new .ensures) at (w .write .ensures)
+    rw (w .before .before .new .ensures) at (w .encode-date-tz .ensures)
 
 pub write-date-tz-spec : {M : Type 1} → statement M
-write-date-tz-spec = tie.close (tie.spec new-requires write-requires same-length returns)
+write-date-tz-spec = tie.close (tie.spec new-requires encode-date-tz-requires same-length returns)

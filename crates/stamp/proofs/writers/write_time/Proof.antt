@@ -9,8 +9,8 @@ new-requires c κs = search needs
 new-requires-2 : tie.Need-new-requires-2
 new-requires-2 c κs = search needs
 
-write-requires : tie.Need-write-requires
-write-requires c κs = search needs
+encode-time-requires : tie.Need-encode-time-requires
+encode-time-requires c κs = search needs
 
 same-length : tie.Need-same-length
 same-length c = search needs
@@ -18,8 +18,8 @@ same-length c = search needs
 returns : tie.Need-returns
 returns c =
     let w = c .before .before in
-    rw (w .before .before .before .new .ensures, w .before .before .new2 .ensures) at (w .write .ensures)
+    rw (w .before .before .before .new .ensures, w .before .before .new2 .ensures) at (w .encode-time .ensures)
 
 pub write-time-spec : {M : Type 1} → statement M
 write-time-spec =
-    tie.close (tie.spec new-requires new-requires-2 write-requires same-length returns)
+    tie.close (tie.spec new-requires new-requires-2 encode-time-requires same-length returns)

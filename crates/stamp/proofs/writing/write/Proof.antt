@@ -1,102 +1,117 @@
--- `write` meets its contract: the digits first, then the writer of the chosen form. Assumes nothing.
-use mathlib.Core.Path.{_≡_, sym, _∙_, ap}
-use mathlib.Core.Bool.{true, false}
-use Rattle.format.specs.Words.{refused}
-use Rattle.format.specs.Values.{Kind, Value, Settings, digitsInRange}
-use Rattle.format.specs.Choice.{formFor}
-use Rattle.format.specs.Writing.{encodeIn, encode}
-use Rattle.format.proofs.Cases.{not-true, not-false}
-use Rattle.values.specs.Meaning.{formFrom}
-use Rattle.values.proofs.Writes.{refuses}
-use Rattle.stamp.proofs.Choosing.{chosen-digits, chosen-timed}
+-- `write` meets its contract: what the writer of the kind does. Assumes nothing.
 use borrow.Author.Needs.{needs}
 use Rattle.stamp.proofs.writing.write.Statement.{statement}
 use Rattle.stamp.proofs.writing.write.Tie as tie
 
-few : (c : tie.Else1) → digitsInRange (c .before .before .before .args .settings .digits) ≡ true
-few c = sym (c .before .in-range .ensures) ∙ not-false _ (c .if1 .left)
-
-too-many : (k : Kind) (t : Settings) (v : Value) → digitsInRange (t .digits) ≡ false → encode k t v ≡ refused 1
-unfolding encode
-too-many k t v e = rw e
-
-in-form : (k : Kind) (t : Settings) (v : Value) → digitsInRange (t .digits) ≡ true → encode k t v ≡ encodeIn k (formFor k t v) v
-unfolding encode
-in-form k t v e = rw e
-
-in-range-requires : tie.Need-in-range-requires
-in-range-requires c κs = search needs
-
-returns : tie.Need-returns
-returns c = rw (too-many _ _ _ (sym (c .before .in-range .ensures) ∙ not-true _ (c .if1 .taken))) (refuses 1 _)
-
-form-requires : tie.Need-form-requires
-form-requires c κs = search needs
-
-enum-known-digits : tie.Need-enum-known-digits
-enum-known-digits c = search needs
-
-write-text-requires : tie.Need-write-text-requires
-write-text-requires c κs = chosen-digits _ _ _ (few (c .before .before .before .before .before)) _ (sym (c .before .before .before .before .form .ensures) ∙ ap formFrom (c .before .before .digits .given .1))
-
 enum-told : tie.Need-enum-told
 enum-told c = search needs
 
-write-compact-requires : tie.Need-write-compact-requires
-write-compact-requires c κs = search needs
+encode-date-requires : tie.Need-encode-date-requires
+encode-date-requires c κs = search needs
 
 enum-told-2 : tie.Need-enum-told-2
 enum-told-2 c = search needs
 
-write-extended-requires : tie.Need-write-extended-requires
-write-extended-requires c κs = chosen-timed _ _ _ (few (c .before .before .before .before)) (sym (c .before .before .before .form .ensures) ∙ ap formFrom (c .before .enum-told2 .given .1))
+encode-date-tz-requires : tie.Need-encode-date-tz-requires
+encode-date-tz-requires c κs = search needs
+
+enum-told-3 : tie.Need-enum-told-3
+enum-told-3 c = search needs
+
+encode-time-requires : tie.Need-encode-time-requires
+encode-time-requires c κs = search needs
+
+enum-told-4 : tie.Need-enum-told-4
+enum-told-4 c = search needs
+
+encode-time-tz-requires : tie.Need-encode-time-tz-requires
+encode-time-tz-requires c κs = search needs
+
+enum-told-5 : tie.Need-enum-told-5
+enum-told-5 c = search needs
+
+encode-datetime-requires : tie.Need-encode-datetime-requires
+encode-datetime-requires c κs = search needs
+
+enum-told-6 : tie.Need-enum-told-6
+enum-told-6 c = search needs
+
+encode-datetime-tz-requires : tie.Need-encode-datetime-tz-requires
+encode-datetime-tz-requires c κs = search needs
 
 same-length : tie.Need-same-length
 same-length c = search needs
 
-returns-2 : tie.Need-returns-2
-returns-2 c =
+returns : tie.Need-returns
+returns c =
     let w = c .before .before in
-    let t = w .before .before in
-    let f = t .before .before .before in
-    rw (in-form _ _ _ (few (f .before)), sym (f .form .ensures) ∙ ap formFrom (t .before .digits .given .1)) (w .write-text .ensures)
+    rw (w .before .before .enum-told .given .1) (w .encode-date .ensures)
 
 same-length-2 : tie.Need-same-length-2
 same-length-2 c = search needs
 
-returns-3 : tie.Need-returns-3
-returns-3 c =
+returns-2 : tie.Need-returns-2
+returns-2 c =
     let w = c .before .before in
-    let t = w .before .before in
-    let f = t .before .before in
-    rw (in-form _ _ _ (few (f .before)), sym (f .form .ensures) ∙ ap formFrom (t .enum-told .given .1)) (w .write-compact .ensures)
+    rw (w .before .before .enum-told2 .given .1) (w .encode-date-tz .ensures)
 
 same-length-3 : tie.Need-same-length-3
 same-length-3 c = search needs
 
+returns-3 : tie.Need-returns-3
+returns-3 c =
+    let w = c .before .before in
+    rw (w .before .before .enum-told3 .given .1) (w .encode-time .ensures)
+
+same-length-4 : tie.Need-same-length-4
+same-length-4 c = search needs
+
 returns-4 : tie.Need-returns-4
 returns-4 c =
     let w = c .before .before in
-    let t = w .before .before in
-    let f = t .before .before in
-    rw (in-form _ _ _ (few (f .before)), sym (f .form .ensures) ∙ ap formFrom (t .enum-told2 .given .1)) (w .write-extended .ensures)
+    rw (w .before .before .enum-told4 .given .1) (w .encode-time-tz .ensures)
+
+same-length-5 : tie.Need-same-length-5
+same-length-5 c = search needs
+
+returns-5 : tie.Need-returns-5
+returns-5 c =
+    let w = c .before .before in
+    rw (w .before .before .enum-told5 .given .1) (w .encode-datetime .ensures)
+
+same-length-6 : tie.Need-same-length-6
+same-length-6 c = search needs
+
+returns-6 : tie.Need-returns-6
+returns-6 c =
+    let w = c .before .before in
+    rw (w .before .before .enum-told6 .given .1) (w .encode-datetime-tz .ensures)
 
 pub write-spec : {M : Type 1} → statement M
 write-spec =
     tie.close
     (tie.spec
-    in-range-requires
-    returns
-    form-requires
-    enum-known-digits
-    write-text-requires
     enum-told
-    write-compact-requires
+    encode-date-requires
     enum-told-2
-    write-extended-requires
+    encode-date-tz-requires
+    enum-told-3
+    encode-time-requires
+    enum-told-4
+    encode-time-tz-requires
+    enum-told-5
+    encode-datetime-requires
+    enum-told-6
+    encode-datetime-tz-requires
     same-length
-    returns-2
+    returns
     same-length-2
-    returns-3
+    returns-2
     same-length-3
-    returns-4)
+    returns-3
+    same-length-4
+    returns-4
+    same-length-5
+    returns-5
+    same-length-6
+    returns-6)

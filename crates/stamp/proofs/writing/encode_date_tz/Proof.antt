@@ -1,0 +1,59 @@
+-- `encode_date_tz` meets its contract: the digits first, then the writer of the chosen form. Assumes nothing.
+use mathlib.Core.Path.{_≡_, sym, _∙_}
+use mathlib.Core.Bool.{true}
+use Rattle.format.specs.Values.{digitsInRange}
+use Rattle.format.proofs.Cases.{not-true, not-false}
+use Rattle.format.specs.Choice.{formFor}
+use Rattle.values.proofs.Writes.{refuses}
+use Rattle.stamp.proofs.Choosing.{too-many, in-form}
+use borrow.Author.Needs.{needs}
+use Rattle.stamp.proofs.writing.encode_date_tz.Statement.{statement}
+use Rattle.stamp.proofs.writing.encode_date_tz.Tie as tie
+
+few : (c : tie.Else1) → digitsInRange (c .before .before .before .args .settings .digits) ≡ true
+few c = sym (c .before .in-range .ensures) ∙ not-false _ (c .if1 .left)
+
+in-range-requires : tie.Need-in-range-requires
+in-range-requires c κs = search needs
+
+returns : tie.Need-returns
+returns c = rw (too-many _ _ _ (sym (c .before .in-range .ensures) ∙ not-true _ (c .if1 .taken))) (refuses 1 _)
+
+write-compact-requires : tie.Need-write-compact-requires
+write-compact-requires c κs = search needs
+
+same-length : tie.Need-same-length
+same-length c = search needs
+
+returns-2 : tie.Need-returns-2
+unfolding formFor
+returns-2 c =
+    let w = c .before .before in
+    let t = w .before .before in
+    rw (in-form _ _ _ (few (t .before)), t .if2 .taken) (w .write-compact .ensures)
+
+write-text-requires : tie.Need-write-text-requires
+write-text-requires c κs = search needs
+
+same-length-2 : tie.Need-same-length-2
+same-length-2 c = search needs
+
+returns-3 : tie.Need-returns-3
+unfolding formFor
+returns-3 c =
+    let w = c .before .before in
+    let t = w .before .before in
+    rw (in-form _ _ _ (few (t .before)), t .if2 .left) (w .write-text .ensures)
+
+pub encode-date-tz-spec : {M : Type 1} → statement M
+encode-date-tz-spec =
+    tie.close
+    (tie.spec
+    in-range-requires
+    returns
+    write-compact-requires
+    same-length
+    returns-2
+    write-text-requires
+    same-length-2
+    returns-3)
