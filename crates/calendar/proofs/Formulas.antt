@@ -5,7 +5,7 @@ use mathlib.Core.Logic.{⊎-elim}
 use mathlib.Core.Bool.{Bool, true, false}
 use Prim.Native.Nat.{ℕ, _+_, _-_, _*_, _/_, _%_, _<_, _≤_}
 use native.Mathlib.Omega.{arith}
-use lib.Dec.{T, ltb, eqb, eqb→eq}
+use lib.Dec.{T, leb, ltb, eqb, eqb→eq, leb→le}
 use borrow.Author.Tests.{lt-ltb}
 use lib.ListN.{replicate}
 use Rattle.format.specs.Words.{pick}
@@ -44,6 +44,12 @@ pub month-length : (l : Bool) (m : ℕ) → 1 ≤ m → m ≤ 12 → lengthBy l 
 unfolding monthLength
 month-length true = months (lengthBy true) (monthLength true) tt
 month-length false = months (lengthBy false) (monthLength false) tt
+
+-- every month has 28 days
+pub month-long : (l : Bool) (m : ℕ) → 1 ≤ m → m ≤ 12 → 28 ≤ monthLength l (m - 1)
+unfolding monthLength
+month-long true m a b = leb→le _ _ (below (λ k. leb 28 (monthLength true k)) 12 tt (m - 1) (omega arith))
+month-long false m a b = leb→le _ _ (below (λ k. leb 28 (monthLength false k)) 12 tt (m - 1) (omega arith))
 
 pub month-start : (l : Bool) (m : ℕ) → 1 ≤ m → m ≤ 12 → startBy l m ≡ sumFrom (monthLength l) 0 (m - 1)
 unfolding monthLength sumFrom

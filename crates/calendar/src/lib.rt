@@ -53,7 +53,7 @@ impl Date {
         Date { year, month, day }
     }
 
-    // Whether there is such a day in the years 1 to 9999.
+    // Whether there is such a day in the years 1 to 9999. Few days have to ask how long their month is.
     pub fn in_range(self) -> bool
         ensures { λ r. ⌜ DateInRange self r ⌝ }
     {
@@ -69,8 +69,14 @@ impl Date {
         if month < 1 {
             return false;
         }
+        if 12 < month {
+            return false;
+        }
         if day < 1 {
             return false;
+        }
+        if day <= months::SHORTEST {
+            return true;
         }
         day <= months::month_length(is_leap(year), month)
     }

@@ -15,14 +15,14 @@ fn lacking(leap: bool, early: bool) -> u32
     if leap { 1 } else { 2 }
 }
 
-// 31 and 30 days in turn, but July and August have 31 both. 0 past December: no day is in such a month.
+// Every month has so many days.
+pub(crate) const SHORTEST: u32 = 28;
+
+// 31 and 30 days in turn, but July and August have 31 both.
 pub(crate) fn month_length(leap: bool, month: u32) -> u32
-    requires { ⌜ 1 ≤ month ⌝ }
+    requires { ⌜ (1 ≤ month) × (month ≤ 12) ⌝ }
     ensures { λ r. ⌜ r ≡ monthLength leap (month - 1) ⌝ }
 {
-    if 12 < month {
-        return 0;
-    }
     if month == 2 {
         return 30 - lacking(leap, false);
     }
