@@ -2,7 +2,8 @@
 // There is no loop: the years go by a table of the 400 year starts of a cycle, the months by a formula.
 ghost use mathlib.Core.Path.{_≡_};
 ghost use mathlib.Core.Bool.{true};
-ghost use Prim.Native.Nat.{_-_, _<_, _≤_};
+ghost use Prim.Native.Nat.{_+_, _-_, _<_, _≤_};
+ghost use Rattle.format.specs.Words.{pick};
 ghost use Rattle.format.specs.Walk.{sumFrom, place};
 ghost use Rattle.format.specs.Calendar.{leap, yearLength, isDay, dayNumber, dayIn};
 ghost use Rattle.calendar.specs.Meaning.{dayFrom};
@@ -31,10 +32,11 @@ pub enum Dated {
     NoSuchNumber,
 }
 
-// What lies before a day: whole years, and days of its own year.
+// What lies before a day: whole years, and days of its own year; and whether that one is a leap year.
 struct Elapsed {
     years: u32,
     days: u32,
+    leap: bool,
 }
 
 // The leap years repeat after 400 years: so the table has 400 entries.
@@ -92,12 +94,10 @@ fn is_leap(year: u32) -> bool
     year % 4 == 0
 }
 
-// `year` is counted from 1, as in a date; `yearLength` counts from 0.
-fn year_length(year: u32) -> u32
-    requires { ⌜ 1 ≤ year ⌝ }
-    ensures { λ r. ⌜ r ≡ yearLength (year - 1) ⌝ }
+fn year_length(leap: bool) -> u32
+    ensures { λ r. ⌜ r ≡ pick leap 366 365 ⌝ }
 {
-    if is_leap(year) { 366 } else { 365 }
+    if leap { 366 } else { 365 }
 }
 
 // Whole cycles, and the table's entry for the years of the last one.
@@ -136,49 +136,45 @@ pub fn day_number(date: Date) -> Numbered
     Numbered::NoSuchDay
 }
 
-// The years of the cycle before its day `rest`, or one too many, since no year is shorter than 365 days.
-// The cycle's last 97 days would give 400, and are in its last year.
+// The years of the cycle before its day `rest`, or one too few: a year's share of the cycle's days is less than a day before its start, and less than
+// two behind it.
 fn guess(rest: u32) -> u32
     requires { ⌜ rest < 146097 ⌝ }
     ensures { λ r. ⌜ Guessed rest r ⌝ }
 {
-    let years = rest / 365;
-    if years < CYCLE_YEARS {
-        years
-    } else {
-        CYCLE_YEARS - 1
-    }
+    rest * CYCLE_YEARS / CYCLE_DAYS
 }
 
-// Where the guess is one too many, the year before starts by its own length earlier: so the table is read once.
+// The table is read once: where the guess is one too few, the next year starts by this one's length later.
 fn elapsed_at(number: u32) -> Elapsed
     requires { ⌜ number < 3652059 ⌝ }
-    ensures { λ r. ⌜ placeFrom r ≡ place yearLength 9998 0 number ⌝ }
+    ensures { λ r. ⌜ (placeFrom r ≡ place yearLength 9998 0 number) × (r .leap ≡ leap (r .years + 1)) ⌝ }
 {
     let rest = number % CYCLE_DAYS;
     let guessed = guess(rest);
     let years = number / CYCLE_DAYS * CYCLE_YEARS + guessed;
-    let start = year_starts::entry(guessed);
-    if start <= rest {
-        return Elapsed {
-            years,
-            days: rest - start,
-        };
+    let leap = is_leap(years + 1);
+    let days = rest - year_starts::entry(guessed);
+    let length = year_length(leap);
+    if days < length {
+        return Elapsed { years, days, leap };
     }
+    let next = years + 1;
     Elapsed {
-        years: years - 1,
-        days: rest + year_length(years) - start,
+        years: next,
+        days: days - length,
+        leap: is_leap(next + 1),
     }
 }
 
 // The date of the day that comes after that many years and days.
 fn date_after(past: Elapsed) -> Date
-    requires { ⌜ (past .years < 9999) × (past .days < yearLength (past .years)) ⌝ }
+    requires { ⌜ (past .years < 9999) × (past .days < yearLength (past .years)) × (past .leap ≡ leap (past .years + 1)) ⌝ }
     ensures { λ r. ⌜ dayFrom r ≡ dayIn (placeFrom past) ⌝ }
 {
-    let days = past.days;
     let year = past.years + 1;
-    let leap = is_leap(year);
+    let days = past.days;
+    let leap = past.leap;
     let month = months::month_of(leap, days);
     Date {
         year,

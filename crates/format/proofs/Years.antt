@@ -1,17 +1,17 @@
 -- Laws of the years. Assumes nothing.
-use mathlib.Core.Path.{_≡_, refl, sym, _∙_, ap}
+use mathlib.Core.Path.{_≡_, refl, _∙_}
 use mathlib.Core.Logic.{⊎-elim}
 use mathlib.Core.Bool.{true, false}
 use Prim.Native.Nat.{ℕ, zero, suc, _+_, _-_, _*_, _/_, _%_, _<_, _≤_}
-use native.Mathlib.Nat.{zero-add, add-assoc}
+use native.Mathlib.Nat.{zero-add}
 use native.Mathlib.Numerals.{add-one}
 use native.Mathlib.Omega.{arith}
 use borrow.Author.Tests.{eq-eqb, ne-eqb}
 use lib.Dec.{eqb}
-use Rattle.format.specs.Walk.{sumFrom, Place, place}
+use Rattle.format.specs.Walk.{sumFrom}
 use Rattle.format.specs.Calendar.{leap, yearLength, yearStart}
-use Rattle.format.proofs.Cases.{eq-or-ne, lt-or-le}
-use Rattle.format.proofs.Walk.{sum-last, sum-mono, place-between}
+use Rattle.format.proofs.Cases.{eq-or-ne}
+use Rattle.format.proofs.Walk.{sum-last}
 
 -- the leap rule, test by test
 pub leap-400 : (y : ℕ) → y % 400 ≡ 0 → leap y ≡ true
@@ -84,10 +84,6 @@ years (suc k) =
     (sums (sumFrom yearLength 0 k) (yearLength k) k _ _ _ _ _ _ (years k) (year-step k))
 
 -- the same by the cycle of 400 years and the year in it
-start-zero : yearStart 0 ≡ 0
-unfolding yearStart
-start-zero = refl
-
 pub years-cycle : (q j : ℕ) → sumFrom yearLength 0 (q * 400 + j) + j / 100 ≡ q * 146097 + 365 * j + j / 4 + j / 400
 years-cycle q j =
     let a : (q * 400 + j) / 4 ≡ 100 * q + j / 4 = omega arith in
@@ -114,45 +110,5 @@ years-table k =
     let e : k / 400 * 400 + k % 400 ≡ k = omega arith in
     rw e at (years-entry (k / 400) (k % 400) (omega arith))
 
--- between 0 and 97 of them are leap days
-years-low : (q j : ℕ) → q * 146097 + 365 * j ≤ sumFrom yearLength 0 (q * 400 + j)
-years-low q j = omega (arith, (let l : j / 100 ≤ j / 4 = omega arith in l), years-cycle q j)
-
-years-high : (q j : ℕ) → j ≤ 400 → sumFrom yearLength 0 (q * 400 + j) ≤ q * 146097 + 365 * j + 101
-years-high q j h = omega (arith, (let a : j / 4 ≤ 100 = omega arith in a), (let b : j / 400 ≤ 1 = omega arith in b), years-cycle q j)
-
 pub days : sumFrom yearLength 0 9999 ≡ 3652059
 days = omega (arith, years 9999)
-
--- the year of a day number, from bounds
-pub year-found : (n k : ℕ) → n < 3652059 → sumFrom yearLength 0 k ≤ n → n < sumFrom yearLength 0 (k + 1) → k ≡ place yearLength 9998 0 n .index
-year-found n k h lo hi =
-    ⊎-elim (λ t. sym (ap (λ (p : Place). p .index) (place-between yearLength 9998 n k (omega arith) lo hi)))
-    (λ t. absurd (omega (arith, days, sum-mono yearLength 0 9999 k t)))
-    (lt-or-le k 9999)
-
--- the guess g is right, or one too many
-pub guess-right : (n q r g : ℕ) → n < 3652059 → n ≡ q * 146097 + r → r < 365 * g + 365 → g < 400 → yearStart g ≤ r
-    → q * 400 + g ≡ place yearLength 9998 0 n .index
-guess-right n q r g h e a b t =
-    year-found n (q * 400 + g) h (omega (arith, years-entry q g b))
-    (rw add-assoc (omega (arith, years-low q (g + 1))))
-
-pub guess-over : (n q r g : ℕ) → n < 3652059 → n ≡ q * 146097 + r → r < 146097 → 365 * g ≤ r → (g < 400 → r < yearStart g)
-    → (1 ≤ g) × (q * 400 + (g - 1) ≡ place yearLength 9998 0 n .index)
-guess-over n q r g h e a b t =
-    let one : 1 ≤ g = ⊎-elim (λ z. absurd (zero-start (t (omega arith)) z)) (λ z. z) (lt-or-le g 1) in
-    let s : q * 400 + (g - 1) + 1 ≡ q * 400 + g = omega arith in (
-      one,
-      year-found n (q * 400 + (g - 1)) h (omega (arith, years-high q (g - 1) (omega arith)))
-          (rw s (⊎-elim (λ z. omega (arith, years-entry q g z, t z)) (λ z. omega (arith, years-low q g, full z)) (lt-or-le g 400))),
-    )
-  where
-    zero-start : r < yearStart g → g < 1 → ⊥
-    zero-start x z = let y : g ≡ 0 = omega arith in none (rw y at x)
-      where
-        none : r < yearStart 0 → ⊥
-        none x = omega (arith, start-zero)
-
-    full : 400 ≤ g → q * 146097 + 146097 ≤ sumFrom yearLength 0 (q * 400 + g)
-    full z = let y : g ≡ 400 = omega arith in rw y (omega (arith, years-cycle q 400))

@@ -13,20 +13,17 @@ use Rattle.calendar.proofs.date_after.Tie as tie
 add-year : tie.Need-add-year
 add-year c = search needs
 
-is-leap-requires : tie.Need-is-leap-requires
-is-leap-requires c κs = search needs
-
-in-year : (c : tie.After-is-leap) → c .before .before .args .past .days < sumFrom (monthLength (c .is-leap .result)) 0 12
-in-year c = rw (c .is-leap .ensures, months-year (c .before .before .args .past .years)) (c .before .before .pre .1)
+in-year : (c : tie.Start) → c .args .past .days < sumFrom (monthLength (c .args .past .leap)) 0 12
+in-year c = rw (c .pre .2, months-year (c .args .past .years)) (c .pre .1)
 
 month-of-requires : tie.Need-month-of-requires
-month-of-requires c κs = in-year c
+month-of-requires c κs = in-year (c .before)
 
 -- the place of the day among the months, whatever is said to lie before the month
-month : (c : tie.After-month-of) (s : ℕ) → s ≡ sumFrom (monthLength (c .before .is-leap .result)) 0 (c .month-of .result - 1)
-    → Taken (monthLength (c .before .is-leap .result)) 11 (c .before .before .before .args .past .days) (c .month-of .result - 1) s
+month : (c : tie.After-month-of) (s : ℕ) → s ≡ sumFrom (monthLength (c .before .before .args .past .leap)) 0 (c .month-of .result - 1)
+    → Taken (monthLength (c .before .before .args .past .leap)) 11 (c .before .before .args .past .days) (c .month-of .result - 1) s
 month c s e =
-    taken (monthLength (c .before .is-leap .result)) 11 _ _ s (in-year (c .before)) (omega (arith, c .month-of .ensures)) e
+    taken (monthLength (c .before .before .args .past .leap)) 11 _ _ s (in-year (c .before .before)) (omega (arith, c .month-of .ensures)) e
 
 days-before-month-requires : tie.Need-days-before-month-requires
 days-before-month-requires c κs = (omega (arith, c .month-of .ensures), omega (arith, month c _ refl .within))
@@ -35,20 +32,12 @@ sub-t7 : tie.Need-sub-t7
 sub-t7 c = month (c .before) _ (c .days-before-month .ensures) .before
 
 add-t8 : tie.Need-add-t8
-add-t8 c = omega (arith, in-year (c .before .before), year-short (c .before .before .is-leap .result))
+add-t8 c = omega (arith, in-year (c .before .before .before), year-short (c .before .before .before .args .past .leap))
 
 returns : tie.Need-returns
 returns c =
-    rw (month (c .before) _ (c .days-before-month .ensures) .rest, c .before .month-of .ensures, c .before .before .is-leap .ensures)
+    rw (month (c .before) _ (c .days-before-month .ensures) .rest, c .before .month-of .ensures, c .before .before .before .pre .2)
 
 pub date-after-spec : {M : Type 1} → statement M
 date-after-spec =
-    tie.close
-    (tie.spec
-    add-year
-    is-leap-requires
-    month-of-requires
-    days-before-month-requires
-    sub-t7
-    add-t8
-    returns)
+    tie.close (tie.spec add-year month-of-requires days-before-month-requires sub-t7 add-t8 returns)

@@ -20,12 +20,13 @@ elapsed-at-requires c κs = search needs
 date-after-requires : tie.Need-date-after-requires
 date-after-requires c κs =
     let p = placed yearLength 9998 (c .before .before .args .number) (rw days (omega (arith, c .before .if1 .left))) in
-    (omega (arith, rw (← c .elapsed-at .ensures) at (p .within)), rw (← c .elapsed-at .ensures) at (p .short))
+    let e = c .elapsed-at .ensures in
+    (omega (arith, rw (← e .0) at (p .within)), rw (← e .0) at (p .short), e .1)
 
 returns-2 : tie.Need-returns-2
 unfolding dayAsked dayOf
 returns-2 c =
-    rw (le-leb (c .before .before .before .args .number) 3652058 (omega (arith, c .before .before .if1 .left))) (ap accepted (c .date-after .ensures ∙ ap dayIn (c .before .elapsed-at .ensures)))
+    rw (le-leb (c .before .before .before .args .number) 3652058 (omega (arith, c .before .before .if1 .left))) (ap accepted (c .date-after .ensures ∙ ap dayIn (c .before .elapsed-at .ensures .0)))
 
 pub date-of-spec : {M : Type 1} → statement M
 date-of-spec = tie.close (tie.spec returns elapsed-at-requires date-after-requires returns-2)

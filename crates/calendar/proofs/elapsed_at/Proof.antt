@@ -1,8 +1,6 @@
--- `calendar::elapsed_at` meets its contract: the guess is right where the table's entry is not past the day, else one too many. Assumes nothing.
-use Prim.Native.Nat.{ℕ, _+_, _-_, _*_, _/_, _%_}
-use native.Mathlib.Omega.{arith}
-use Rattle.calendar.proofs.Cycle.{Before, found-right, found-before}
-use Rattle.format.proofs.Dates.{year-most}
+-- `calendar::elapsed_at` meets its contract: the guess is right where the day is in its year, else one too few. Assumes nothing.
+use Rattle.format.specs.Calendar.{yearLength}
+use Rattle.calendar.proofs.Cycle.{found-right, found-after}
 use borrow.Author.Needs.{needs}
 use Rattle.calendar.proofs.elapsed_at.Statement.{statement}
 use Rattle.calendar.proofs.elapsed_at.Tie as tie
@@ -16,38 +14,48 @@ mul-years c = search needs
 add-years : tie.Need-add-years
 add-years c = search needs
 
+add-is-leap : tie.Need-add-is-leap
+add-is-leap c = search needs
+
+is-leap-requires : tie.Need-is-leap-requires
+is-leap-requires c κs = search needs
+
 entry-requires : tie.Need-entry-requires
 entry-requires c κs = search needs
 
-returns : tie.Need-returns
-returns c =
-    let s = c .before .before in
-    rw (c .before .entry .ensures)
-    (found-right (s .before .args .number) _ (s .before .pre) (s .guess .ensures) (omega (arith, c .if1 .taken, c .before .entry .ensures)))
-
-abbrev years : tie.Else1 → ℕ
-years c = c .before .before .before .args .number / 146097 * 400 + c .before .before .guess .result
-
-over : (c : tie.Else1)
-    → Before (c .before .before .before .args .number) (c .before .before .before .args .number / 146097) (c .before .before .before .args .number % 146097) (c .before .before .guess .result)
-over c =
-    let s = c .before .before in
-    found-before (s .before .args .number) _ (s .before .pre) (s .guess .ensures) (omega (arith, c .if1 .left, c .before .entry .ensures))
-
-sub-t6 : tie.Need-sub-t6
-sub-t6 c = over c .some
+sub-days : tie.Need-sub-days
+sub-days c = search needs
 
 year-length-requires : tie.Need-year-length-requires
-year-length-requires c κs = over c .some
+year-length-requires c κs = search needs
 
-add-t10 : tie.Need-add-t10
-add-t10 c = omega (arith, c .year-length .ensures, year-most (years (c .before) - 1))
+returns : tie.Need-returns
+unfolding yearLength
+returns c =
+    let y = c .before in
+    let d = y .before in
+    let l = d .before in
+    let g = l .before in
+    (rw (d .entry .ensures) (found-right _ _ (g .before .pre) (g .guess .ensures) (rw (y .year-length .ensures, l .is-leap .ensures, d .entry .ensures) at (c .if1 .taken))), l .is-leap .ensures)
 
-sub-t11 : tie.Need-sub-t11
-sub-t11 c = rw (c .year-length .ensures, c .before .before .entry .ensures) (over (c .before) .fits)
+add-next : tie.Need-add-next
+add-next c = search needs
+
+add-is-leap-2 : tie.Need-add-is-leap-2
+add-is-leap-2 c = search needs
+
+is-leap-requires-2 : tie.Need-is-leap-requires-2
+is-leap-requires-2 c κs = search needs
 
 returns-2 : tie.Need-returns-2
-returns-2 c = rw (c .year-length .ensures, c .before .before .entry .ensures) (over (c .before) .found)
+unfolding yearLength
+returns-2 c =
+    let e = c .before in
+    let y = e .before in
+    let d = y .before in
+    let l = d .before in
+    let g = l .before in
+    (rw (d .entry .ensures, y .year-length .ensures, l .is-leap .ensures) (found-after _ _ (g .before .pre) (g .guess .ensures) (rw (y .year-length .ensures, l .is-leap .ensures, d .entry .ensures) at (e .if1 .left))), c .is-leap2 .ensures)
 
 pub elapsed-at-spec : {M : Type 1} → statement M
 elapsed-at-spec =
@@ -56,10 +64,13 @@ elapsed-at-spec =
     guess-requires
     mul-years
     add-years
+    add-is-leap
+    is-leap-requires
     entry-requires
-    returns
-    sub-t6
+    sub-days
     year-length-requires
-    add-t10
-    sub-t11
+    returns
+    add-next
+    add-is-leap-2
+    is-leap-requires-2
     returns-2)
