@@ -173,13 +173,12 @@ fn date_after(past: Elapsed) -> Date
     ensures { λ r. ⌜ dayFrom r ≡ dayIn (placeFrom past) ⌝ }
 {
     let year = past.years + 1;
-    let days = past.days;
-    let leap = past.leap;
-    let month = months::month_of(leap, days);
+    let day = months::shifted(past.leap, past.days);
+    let month = months::month_of(day);
     Date {
         year,
         month,
-        day: days - months::days_before_month(leap, month) + 1,
+        day: day - months::start_of(month) + 1,
     }
 }
 

@@ -1,9 +1,10 @@
 // The months of a year, by formulas: no table is built and nothing is counted. Months are numbered from 1, days of a year from 0.
 ghost use mathlib.Core.Path.{_≡_};
-ghost use Prim.Native.Nat.{_+_, _-_, _<_, _≤_};
+ghost use Prim.Native.Nat.{_-_, _<_, _≤_};
 ghost use Rattle.format.specs.Words.{pick};
-ghost use Rattle.format.specs.Walk.{sumFrom, place};
+ghost use Rattle.format.specs.Walk.{sumFrom};
 ghost use Rattle.format.specs.Calendar.{monthLength};
+ghost use Rattle.calendar.specs.Steps.{startOf, shiftedBy, monthOf};
 
 // The formulas are those of a February of 30 days. How many it lacks counts from March on: not `early`.
 fn lacking(leap: bool, early: bool) -> u32
@@ -29,19 +30,35 @@ pub(crate) fn month_length(leap: bool, month: u32) -> u32
     30 + (month + month / 8) % 2
 }
 
-// The days of the year before a month: with that February a month has 367/12 days, and the starts are rounded down.
+// The days before a month, with that February: a month then has 367/12 days, and the starts are rounded down.
+pub(crate) fn start_of(month: u32) -> u32
+    requires { ⌜ (1 ≤ month) × (month ≤ 12) ⌝ }
+    ensures { λ r. ⌜ r ≡ startOf month ⌝ }
+{
+    (367 * month - 362) / 12
+}
+
+// The days of the year before a month.
 pub(crate) fn days_before_month(leap: bool, month: u32) -> u32
     requires { ⌜ (1 ≤ month) × (month ≤ 12) ⌝ }
     ensures { λ r. ⌜ r ≡ sumFrom (monthLength leap) 0 (month - 1) ⌝ }
 {
-    (367 * month - 362) / 12 - lacking(leap, month < 3)
+    start_of(month) - lacking(leap, month < 3)
 }
 
-// The month of a day of the year: the same line, read the other way.
-pub(crate) fn month_of(leap: bool, day: u32) -> u32
+// A day of the year, as it is numbered with that February.
+pub(crate) fn shifted(leap: bool, day: u32) -> u32
     requires { ⌜ day < sumFrom (monthLength leap) 0 12 ⌝ }
-    ensures { λ r. ⌜ r ≡ place (monthLength leap) 11 0 day .index + 1 ⌝ }
+    ensures { λ r. ⌜ r ≡ shiftedBy leap day ⌝ }
 {
     let march = days_before_month(leap, 3);
-    (12 * (day + lacking(leap, day < march)) + 373) / 367
+    day + lacking(leap, day < march)
+}
+
+// The month of a day so numbered: the same line as in `start_of`, read the other way.
+pub(crate) fn month_of(shifted: u32) -> u32
+    requires { ⌜ shifted < 368 ⌝ }
+    ensures { λ r. ⌜ r ≡ monthOf shifted ⌝ }
+{
+    (12 * shifted + 373) / 367
 }
