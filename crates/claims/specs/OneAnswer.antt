@@ -62,7 +62,7 @@ SettingsAnswers =
 
 abbrev pub WritersAnswers : Type 0
 WritersAnswers =
-    ((k : Kind) (t : Settings) (v : Value) → OneWriting (stamp.WritesKind k t v))
+    ((k : format.Kind) (t : Settings) (v : Value) → OneWriting (stamp.WritesKind k t v))
     × ((t : Settings) (v : Date) → OneWriting (stamp.WritesDate t v))
     × ((t : Settings) (v : DateTz) → OneWriting (stamp.WritesDateTz t v))
     × ((t : Settings) (v : Time) → OneWriting (stamp.WritesTime t v))
@@ -72,7 +72,7 @@ WritersAnswers =
 
 abbrev pub ReadersAnswers : Type 0
 ReadersAnswers =
-    ((k : Kind) (s : List ℕ) → OneAnswer (stamp.ParsesKind k s))
+    ((k : format.Kind) (s : List ℕ) → OneAnswer (stamp.ParsesKind k s))
     × ((s : List ℕ) → OneAnswer (stamp.ReadsDate s))
     × ((s : List ℕ) → OneAnswer (stamp.ReadsDateTz s))
     × ((s : List ℕ) → OneAnswer (stamp.ReadsTime s))

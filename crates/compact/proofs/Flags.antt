@@ -1,20 +1,19 @@
--- A kind's number since 2020-01-01, over the kind's flags: how it is made of the day and the milliseconds, and how it is split again where
--- it is within its limits. The laws of `Since` at the kind's units of a day. Assumes nothing.
-use mathlib.Core.Path.{_≡_, refl, sym, _∙_, ap}
+-- A kind's number since 2020-01-01, over the kind's flags: how it is made of the day and the milliseconds, and that it is
+-- small, counted from the least, where it is within its limits. The laws of `Since` at the kind's units of a day. Assumes nothing.
+use mathlib.Core.Path.{_≡_, refl}
 use mathlib.Core.Bool.{Bool, true, false}
-use Prim.Native.Nat.{ℕ, _+_, _*_, _/_, _%_, _<_, _≤_}
+use Prim.Native.Nat.{ℕ, zero, suc, _+_, _*_, _/_, _^_, _<_, _≤_}
 use native.Mathlib.Omega.{arith}
-use lib.IntN.{ℤ, pos, negsuc, subℕ, _+ℤ_, _*ℤ_}
+use lib.IntN.{ℤ, pos, negℤ, subℕ, _+ℤ_, _-ℤ_, _*ℤ_}
 use lib.Dec.{leb}
-use borrow.Author.Tests.{leb-true, ltb-true}
+use borrow.Author.Tests.{leb-true}
 use Rattle.format.specs.Words.{pick, ifAny}
 use Rattle.format.specs.Calendar.{dayNumber}
-use Rattle.format.specs.Floor.{divF, modF}
 use Rattle.format.specs.Values.{Kind, dated, timed, Value}
 use Rattle.format.specs.Compact.{perDay, start, count, number, greatest}
 use Rattle.format.specs.CompactReading.{notBefore, counted, numberInRange}
 use Rattle.format.proofs.Cases.{both-true}
-use Rattle.compact.proofs.Since.{join-since, add-since, day-since, rest-since, not-before-day}
+use Rattle.compact.proofs.Since.{join-since, add-since}
 
 -- ---- made
 
@@ -31,15 +30,15 @@ number-made k v day h = go (dated k) h
         let z : 0 * perDay k ≡ 0 = omega arith in
         rw z (rw z at (join-since 0 0 (perDay k) (ifAny (timed k) (v .micros / 1000))))
 
--- ---- split
+-- ---- counted from the least, and split
 
-some-units : (k : Kind) → 0 < perDay k
+pub units-timed : (k : Kind) → timed k ≡ true → perDay k ≡ 86400000
 unfolding perDay
-some-units k = go (timed k)
-  where
-    go : (t : Bool) → 0 < pick t 86400000 1
-    go true = omega arith
-    go false = omega arith
+units-timed k t = rw t
+
+pub units-plain : (k : Kind) → timed k ≡ false → perDay k ≡ 1
+unfolding perDay
+units-plain k t = rw t
 
 -- the last day is 9999-12-31
 last-day : (t c : Bool) (n : ℕ) → n ≤ 737424 * pick t 86400000 1 + pick t (pick c 251824463999999 140737488355327) 2914634 → n / pick t 86400000 1 < 3652059
@@ -47,9 +46,20 @@ last-day true true n h = omega arith
 last-day true false n h = omega arith
 last-day false c n h = omega arith
 
-from-zero : (x : ℤ) → notBefore 0 x ≡ true → x ≡ pos (counted 0 x)
-from-zero (pos a) e = ap pos (omega arith)
-from-zero (negsuc a) e = absurd (omega (arith, ltb-true a 0 e))
+-- no number of any kind is beyond 63 bits
+small : (k : Kind) (c : Bool) → start k + greatest k c < 2 ^ 63
+unfolding start greatest perDay
+small k c = go (dated k) (timed k) c
+  where
+    go : (d t c : Bool) → ifAny d (737424 * pick t 86400000 1) + pick d (pick t (pick c 251824463999999 140737488355327) 2914634) 86400000 < 2 ^ 63
+    go true true true = omega arith
+    go true true false = omega arith
+    go true false c = omega arith
+    go false t c = omega arith
+
+neg-neg : (n : ℕ) → negℤ (negℤ (pos n)) ≡ pos n
+neg-neg zero = refl
+neg-neg (suc n) = refl
 
 module _ (k : Kind) (c : Bool) (x : ℤ) (q : numberInRange k c x ≡ true) where
   limits : (notBefore (start k) x ≡ true) × (leb (counted (start k) x) (start k + greatest k c) ≡ true)
@@ -58,6 +68,13 @@ module _ (k : Kind) (c : Bool) (x : ℤ) (q : numberInRange k c x ≡ true) wher
 
   limit : counted (start k) x ≤ start k + greatest k c
   limit = leb-true _ _ (limits .1)
+
+  -- counted from the least
+  pub count-made : x -ℤ negℤ (pos (start k)) ≡ pos (counted (start k) x)
+  count-made = rw (neg-neg (start k)) (add-since (start k) x (limits .0))
+
+  pub count-small : counted (start k) x < 2 ^ 63
+  count-small = omega (arith, limit, small k c)
 
   -- a date, and a time with it or none
   module _ (d : dated k ≡ true) where
@@ -69,31 +86,15 @@ module _ (k : Kind) (c : Bool) (x : ℤ) (q : numberInRange k c x ≡ true) wher
     unfolding greatest
     greatest-days = rw d
 
-    not-before : notBefore (737424 * perDay k) x ≡ true
-    not-before = rw start-days at (limits .0)
-
-    pub day-split : divF x (perDay k) +ℤ pos 737424 ≡ pos (counted (start k) x / perDay k)
-    day-split =
-        add-since 737424 (divF x (perDay k)) (not-before-day 737424 (perDay k) (some-units k) x not-before)
-        ∙ rw start-days (ap pos (sym (day-since 737424 (perDay k) (some-units k) x not-before)))
-
     pub day-small : counted (start k) x / perDay k < 3652059
     unfolding perDay
     day-small = last-day (timed k) c (counted (start k) x) (omega (arith, limit, start-days, greatest-days))
-
-    pub rest-split : timed k ≡ true → modF x 86400000 ≡ counted (start k) x % 86400000
-    rest-split t =
-        let p : perDay k ≡ 86400000 = unfold perDay in rw t in
-        rw (start-days, p) (sym (rest-since 737424 86400000 (omega arith) x (rw p at not-before)))
 
   -- a time alone
   module _ (d : dated k ≡ false) where
     start-none : start k ≡ 0
     unfolding start
     start-none = rw d
-
-    pub time-alone : x ≡ pos (counted (start k) x)
-    time-alone = rw start-none (from-zero x (rw start-none at (limits .0)))
 
     pub time-small : counted (start k) x ≤ 86400000
     time-small = omega (arith, limit, start-none, none)

@@ -1,8 +1,11 @@
 -- What the proofs of this crate's functions share: facts on plain numbers and lists.
 pub mod Since
-pub mod Toward
 pub mod Bits
 pub mod Flags
 pub mod Shortest
+pub mod Seeing
 pub mod Stored
 pub mod Room
+pub mod ReadingSteps
+pub mod InRange
+pub mod WritingSteps

@@ -1,17 +1,16 @@
 -- Numbers since 2020-01-01, in ℤ, where `format` counts from 0001-01-01 in ℕ: how one is made of a day and the rest of it, how it is tested
--- against its limits, and how it is split by floor. Each law is shown by the sign, on plain numbers: E is the epoch in days, p the units
+-- against its limits, and how it is counted from 0001-01-01 again. Each law is shown by the sign, on plain numbers: E is the epoch in days, p the units
 -- of a day, B = E * p the epoch in units. Assumes nothing.
 use mathlib.Core.Path.{_≡_, refl, sym, _∙_, ap}
 use mathlib.Core.Logic.{⊎-elim}
 use mathlib.Core.Bool.{true, not}
-use Prim.Native.Nat.{ℕ, zero, suc, _+_, _-_, _*_, _/_, _%_, _<_, _≤_}
-use native.Mathlib.Nat.{add-mul, suc-mul, mod-lt, div-add-mod', mul-add-div-right, mul-add-mod-self-right, div-eq-of-lt, mod-eq-of-lt, div-lt-iff-lt-mul}
+use Prim.Native.Nat.{ℕ, zero, suc, _+_, _-_, _*_, _<_, _≤_}
+use native.Mathlib.Nat.{add-mul}
 use native.Mathlib.Omega.{arith}
 use lib.IntN.{ℤ, pos, negsuc, negℤ, subℕ, _+ℤ_, _*ℤ_}
 use lib.Signed.{mag, ltZ, leZ}
 use lib.Dec.{leb, ltb}
 use borrow.Author.Tests.{lt-ltb, le-ltb, le-leb, lt-leb, ltb-true}
-use Rattle.format.specs.Floor.{divF, modF}
 use Rattle.format.specs.CompactReading.{notBefore, counted}
 use Rattle.format.proofs.Cases.{lt-or-le}
 
@@ -84,39 +83,8 @@ within-since B g (pos a) e =
     (lt-or-le g a)
 within-since B g (negsuc a) e = sym (le-leb (B - suc a) (B + g) (omega arith))
 
--- ---- counted from the first day again, and split by floor
+-- ---- counted from the first day again
 
 pub add-since : (B : ℕ) (x : ℤ) → notBefore B x ≡ true → x +ℤ pos B ≡ pos (counted B x)
 add-since B (pos a) e = refl
 add-since B (negsuc a) e = sub-more B (suc a) (omega (arith, ltb-true a B e))
-
-module _ (E p : ℕ) (h : 0 < p) where
-  -- E whole days without a + 1 units: so many days, and so much of the next one
-  short-of : (a : ℕ) → a < E * p → (E * p - suc a ≡ (E - suc (a / p)) * p + (p - suc (a % p))) × (a / p < E)
-  short-of a l =
-      let q = a / p in
-      let s = div-add-mod' a p in
-      let r = mod-lt a h in
-      let t : q < E = div-lt-iff-lt-mul h .1 l in
-      let e : E ≡ suc q + (E - suc q) = omega arith in
-      let f : E * p ≡ suc q * p + (E - suc q) * p = ap (λ (n : ℕ). n * p) e ∙ add-mul (suc q) (E - suc q) p in
-      (omega (arith, suc-mul q p), t)
-
-  pub day-since : (x : ℤ) → notBefore (E * p) x ≡ true → counted (E * p) x / p ≡ counted E (divF x p)
-  day-since (pos a) e = let s : a + E * p ≡ E * p + a = omega arith in rw (s, mul-add-div-right h E a) (omega arith)
-  day-since (negsuc a) e =
-      let s = short-of a (ltb-true a (E * p) e) in
-      let r = mod-lt a h in
-      let z : (p - suc (a % p)) / p ≡ 0 = div-eq-of-lt (omega arith) in
-      rw (s .0, mul-add-div-right h (E - suc (a / p)) (p - suc (a % p)), z) (omega arith)
-
-  pub rest-since : (x : ℤ) → notBefore (E * p) x ≡ true → counted (E * p) x % p ≡ modF x p
-  rest-since (pos a) e = let s : a + E * p ≡ E * p + a = omega arith in rw (s, mul-add-mod-self-right E p a)
-  rest-since (negsuc a) e =
-      let s = short-of a (ltb-true a (E * p) e) in
-      let r = mod-lt a h in
-      rw (s .0, mul-add-mod-self-right (E - suc (a / p)) p (p - suc (a % p))) (mod-eq-of-lt (omega arith))
-
-  pub not-before-day : (x : ℤ) → notBefore (E * p) x ≡ true → notBefore E (divF x p) ≡ true
-  not-before-day (pos a) e = refl
-  not-before-day (negsuc a) e = lt-ltb (a / p) E (short-of a (ltb-true a (E * p) e) .1)

@@ -1,16 +1,30 @@
 // The compact form of every kind: two octets of offset where it is carried, then one number as a BER integer.
 // The number is signed: negative before 2020-01-01. For the crates of this library: callers prove what is required.
+mod common;
 mod lengths;
 mod limits;
 mod put;
+mod readers;
 mod reading;
-mod split;
+mod writers;
 mod writing;
 
 pub use lengths::has_length;
 pub use lengths::longest;
 pub use put::Image;
 pub use put::Imaged;
+pub use readers::read_date;
+pub use readers::read_date_tz;
+pub use readers::read_datetime;
+pub use readers::read_datetime_tz;
+pub use readers::read_time;
+pub use readers::read_time_tz;
 pub use reading::Taken;
 pub use reading::take;
+pub use writers::write_date;
+pub use writers::write_date_tz;
+pub use writers::write_datetime;
+pub use writers::write_datetime_tz;
+pub use writers::write_time;
+pub use writers::write_time_tz;
 pub use writing::image;

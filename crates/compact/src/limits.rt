@@ -11,6 +11,9 @@ pub const EPOCH: i64 = 737_424;
 
 pub const MILLIS_PER_DAY: i64 = 86_400_000;
 
+// The same, of what is counted from the least number.
+pub const DAY: u64 = 86_400_000;
+
 // 0001-01-01 and 9999-12-31, in days from 2020-01-01.
 const FIRST_DAY: i64 = -737_424;
 

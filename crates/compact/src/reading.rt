@@ -7,16 +7,14 @@ ghost use lib.Dec.{leb, eqb};
 ghost use lib.ListN.{length, take, drop};
 ghost use Rattle.format.specs.Words.{both, needs, ifAny};
 ghost use Rattle.format.specs.Values.{dated, timed, offsetInRange};
-ghost use Rattle.format.specs.Floor.{divF};
 ghost use Rattle.format.specs.Octets.{signedOf, fewestOctets};
-ghost use Rattle.format.specs.Compact.{perDay, start};
+ghost use Rattle.format.specs.Compact.{start};
 ghost use Rattle.format.specs.CompactReading.{longest, shortest, counted, numberInRange, usual, compactValue};
 ghost use Rattle.calendar.specs.Meaning.{dayFrom};
 ghost use Rattle.values.specs.Meaning.{kindFrom, valueFrom};
-ghost use Rattle.compact.specs.Meaning.{Takes, valueTaken, dayTaken};
+ghost use Rattle.compact.specs.Meaning.{Takes, countTaken, valueTaken, dayTaken};
 use crate::lengths;
 use crate::limits;
-use crate::split;
 use calendar::Date;
 use calendar::Dated;
 use values::Kind;
@@ -39,10 +37,10 @@ fn offset_in(s: &[u8]) -> i64
     requires { ⌜ 2 ≤ length (now s) ⌝ }
     ensures { λ r. ⌜ r ≡ signedOf (take 2 (now (s .entry))) ⌝ }
 {
-    octets::take_signed(s, 0, 2)
+    octets::signed_2(s, 0)
 }
 
-fn minutes_in(s: &[u8], front: bool) -> i32
+pub fn minutes_in(s: &[u8], front: bool) -> i32
     requires { ⌜ ifAny front 2 ≤ length (now s) ⌝ }
     ensures { λ r. ⌜ r ≡ signedOf (take (ifAny front 2) (now (s .entry))) ⌝ }
 {
@@ -118,16 +116,6 @@ fn number_in_range(kind: Kind, front: bool, number: i64) -> bool
     number <= limits::greatest_number(kind, front)
 }
 
-// Whole days from 2020-01-01: before it, T goes down to the day that it is in.
-fn days_in(kind: Kind, number: i64) -> i64
-    ensures { λ r. ⌜ r ≡ divF number (perDay (kindFrom kind)) ⌝ }
-{
-    if kind.timed() {
-        return split::whole_days(number);
-    }
-    number
-}
-
 impl Taken {
     pub fn in_range(self, kind: Kind) -> bool
         ensures { λ r. ⌜ r ≡ both (offsetInRange (self .minutes)) (numberInRange (kindFrom kind) (self .front) (self .number)) ⌝ }
@@ -141,13 +129,25 @@ impl Taken {
         number_in_range(kind, front, number)
     }
 
+    // The number, counted from the least: so that it is split unsigned, and goes down to its day before 2020 too.
+    fn count(self, kind: Kind) -> u64
+        requires { ⌜ numberInRange (kindFrom kind) (self .front) (self .number) ≡ true ⌝ }
+        ensures { λ r. ⌜ r ≡ countTaken (kindFrom kind) self ⌝ }
+    {
+        let number = self.number;
+        (number - limits::least_number(kind)) as u64
+    }
+
     // The day number.
     fn day(self, kind: Kind) -> u32
         requires { ⌜ (dated (kindFrom kind) ≡ true) × (numberInRange (kindFrom kind) (self .front) (self .number) ≡ true) ⌝ }
         ensures { λ r. ⌜ r ≡ dayTaken (kindFrom kind) self ⌝ }
     {
-        let number = self.number;
-        (days_in(kind, number) + limits::EPOCH) as u32
+        let count = self.count(kind);
+        if kind.timed() {
+            return (count / limits::DAY) as u32;
+        }
+        count as u32
     }
 
     fn date(self, kind: Kind) -> Date
@@ -168,14 +168,14 @@ impl Taken {
         requires { ⌜ numberInRange (kindFrom kind) (self .front) (self .number) ≡ true ⌝ }
         ensures { λ r. ⌜ r ≡ valueTaken (kindFrom kind) self .micros ⌝ }
     {
-        let number = self.number;
         if !kind.timed() {
             return 0;
         }
+        let count = self.count(kind);
         if kind.dated() {
-            return split::millis_of_day(number) * 1000;
+            return count % limits::DAY * 1000;
         }
-        number as u64 * 1000
+        count * 1000
     }
 
     pub fn value(self, kind: Kind) -> Value

@@ -2,4 +2,6 @@
 pub mod Twelve
 pub mod Image
 pub mod Days
-pub mod Parts
+pub mod Places
+pub mod Coming
+pub mod Storing

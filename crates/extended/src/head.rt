@@ -10,7 +10,7 @@ use values::Kind;
 use values::Offset;
 
 // 1000 for plain, 1001 for zoned.
-pub fn head_bits(kind: Kind) -> u8
+fn head_bits(kind: Kind) -> u8
     ensures { λ r. ⌜ r ≡ headBits (kindFrom kind) ⌝ }
 {
     if kind.zoned() { 9 } else { 8 }
@@ -34,20 +34,18 @@ fn twelve_bits(kind: Kind, offset: Offset) -> u32
     0
 }
 
-pub fn header(kind: Kind, offset: Offset) -> u64
+pub fn header(kind: Kind, offset: Offset) -> u16
     ensures { λ r. ⌜ r ≡ headBits (kindFrom kind) * 4096 + ifAny (zoned (kindFrom kind)) (modF (offset .minutes) 4096) ⌝ }
 {
-    (head_bits(kind) as u64) * 4096 + (twelve_bits(kind, offset) as u64)
+    (head_bits(kind) as u16) * 4096 + (twelve_bits(kind, offset) as u16)
 }
 
-// The offset of the header's twelve bits: the first of them is its sign.
+// The offset of the header's twelve bits: the first of them is its sign. Half their range added and taken off again makes it so without a
+// branch.
 pub fn offset_of(bits: u32) -> Offset
     requires { ⌜ bits < 4096 ⌝ }
     ensures { λ r. ⌜ r .minutes ≡ offsetFrom bits ⌝ }
 {
-    let number = bits as i32;
-    if bits < 2048 {
-        return Offset::new(number);
-    }
-    Offset::new(number - 4096)
+    let above = ((bits + 2048) % 4096) as i32;
+    Offset::new(above - 2048)
 }

@@ -1,11 +1,14 @@
 // The extended form of the kinds with a time: two header octets, the day number in 3 where there is a date, the microseconds in 5.
 // For the crates of this library: callers prove what is required.
 mod head;
-mod reading;
-mod writing;
+mod readers;
+mod writers;
 
-pub use reading::Taken;
-pub use reading::heads;
-pub use reading::take;
-pub use writing::length;
-pub use writing::put;
+pub use readers::read_datetime;
+pub use readers::read_datetime_tz;
+pub use readers::read_time;
+pub use readers::read_time_tz;
+pub use writers::write_datetime;
+pub use writers::write_datetime_tz;
+pub use writers::write_time;
+pub use writers::write_time_tz;

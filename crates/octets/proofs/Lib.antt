@@ -2,4 +2,8 @@
 pub mod Integers
 pub mod Counting
 pub mod Taking
+pub mod Wrapping
 pub mod Signs
+pub mod LowFirst
+pub mod Behind
+pub mod Word

@@ -1,12 +1,33 @@
 // Numbers in octets, big-endian: unsigned and two's complement, put into a lent buffer and taken from a slice; the fewest octets of a BER integer.
 // For the crates of this library: callers prove what is required.
+mod fixed;
+mod words;
+
 ghost use mathlib.Core.Path.{_≡_};
 ghost use Prim.Native.Nat.{_+_, _^_, _≤_, _<_};
 ghost use lib.Signed.{mag};
 ghost use lib.ListN.{length, take, drop};
 ghost use lib.Seq.{sets};
 ghost use Rattle.format.specs.Floor.{divF, modF};
-ghost use Rattle.format.specs.Octets.{unsignedOctets, unsignedAt, signedOctets, push, signFrom, signedOf, fewestOctets, tight};
+ghost use Rattle.format.specs.Octets.{signedOctets, push, signFrom, signedOf, fewestOctets, tight};
+pub use fixed::is_beyond;
+pub use fixed::put_signed_2;
+pub use fixed::put_signed_3;
+pub use fixed::put_signed_4;
+pub use fixed::put_signed_4_to_6;
+pub use fixed::put_signed_7;
+pub use fixed::signed_2;
+pub use fixed::signed_3;
+pub use fixed::signed_4;
+pub use fixed::signed_5;
+pub use fixed::signed_6;
+pub use fixed::signed_7;
+pub use words::put1;
+pub use words::put2;
+pub use words::put4;
+pub use words::put8;
+pub use words::take4;
+pub use words::take8;
 
 // ---- the fewest octets
 
@@ -18,10 +39,11 @@ fn magnitude(x: i64) -> u64
 }
 
 // 01: the octet count from the leading sign bits: leading-zero count of the 64-bit number, or of its complement when negative.
+// One octet is the least, so that the last bit does not count: set, it spares a test for zero.
 pub fn fewest_octets(x: i64) -> usize
     ensures { λ r. ⌜ r ≡ fewestOctets x ⌝ }
 {
-    let zeros = u64::leading_zeros(magnitude(x));
+    let zeros = u64::leading_zeros(magnitude(x) | 1);
     ((64 - zeros) / 8 + 1) as usize
 }
 
@@ -54,20 +76,6 @@ pub fn put_signed(buf: &mut [u8], at: usize, n: usize, x: i64)
     }
 }
 
-// The last `n` octets of `x`, at `at`: more of them than `x` needs are zero.
-pub fn put_unsigned(buf: &mut [u8], at: usize, n: usize, x: u64)
-    requires { ⌜ at + n ≤ length (now buf) ⌝ }
-    ensures { λ _. ⌜ now (buf .exit) ≡ sets (now (buf .entry)) at (unsignedOctets n x) ⌝ }
-{
-    let mut v = x;
-    let mut i = n;
-    while 0 < i {
-        i -= 1;
-        buf[at + i] = (v % 256) as u8;
-        v /= 256;
-    }
-}
-
 // ---- taken from a slice, from the first octet to the last
 
 // What stands before a first octet: its sign, in every bit.
@@ -93,21 +101,6 @@ pub fn take_signed(s: &[u8], at: usize, n: usize) -> i64
     let mut i = 0;
     while i < n {
         v = with_octet(v, s[at + i]);
-        i += 1;
-    }
-    v
-}
-
-// The number of the `n` octets at `at`, unsigned.
-pub fn take_unsigned(s: &[u8], at: usize, n: usize) -> u64
-    requires { ⌜ (at + n ≤ length (now s)) × (n ≤ 8) ⌝ }
-    ensures { λ r. ⌜ r ≡ unsignedAt (now (s .entry)) at n ⌝ }
-{
-    let mut v: u64 = 0;
-    let mut i = 0;
-    while i < n {
-        let octet = s[at + i] as u64;
-        v = v * 256 + octet;
         i += 1;
     }
     v

@@ -10,7 +10,7 @@ use Rattle.values.specs.declared.kinds.DateTz.{DateTz}
 use Rattle.values.specs.declared.kinds.TimeTz.{TimeTz}
 use Rattle.values.specs.declared.kinds.Datetime.{Datetime}
 use Rattle.values.specs.declared.kinds.DatetimeTz.{DatetimeTz}
-use Rattle.values.specs.declared.kinds.Kind.{Kind}
+use Rattle.format.specs.Values.{Kind}
 use Rattle.values.specs.declared.kinds.Value.{Value}
 use Rattle.values.specs.declared.settings.Settings.{Settings}
 use Rattle.values.specs.declared.answers.Written.{Written}

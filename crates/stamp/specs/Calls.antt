@@ -1,9 +1,10 @@
 -- What each public call promises, whatever it is given: the legend. A contract cites the name, and so does the theorem of one answer
 -- (proofs/OneAnswer). Settings t, value v, octets s; `lent` is the buffer as it was lent, `left` as it was left, r the answer.
 --
---   WritesKind k t v lent r left      `write`: what `encode` says of kind, settings and value, and every octet of the buffer
+--   WritesKind k t v lent r left      `write`, and at its kind `encode_date` and the other five: what `encode` says of kind, settings and value, and every
+--                                     octet of the buffer
 --   WritesDate t v lent r left, ..    `write_date` and the other five: the same of their kind
---   ParsesKind k s r                  `read`: what `read` says of the kind and the octets
+--   ParsesKind k s r                  `read`, and at its kind `parse_date` and the other five: what `read` says of the kind and the octets
 --   ReadsDate s r, ..                 `read_date` and the other five: the same of their kind
 --   ReadsDateOrDateTz s r, ..         `read_date_or_date_tz` and the other two: what `readEither` says of the two kinds and the octets
 --   ChoosesDate s r, ..               `date_kind` and the other two: the kind that the either-or reader chooses
@@ -32,8 +33,8 @@ use Rattle.values.specs.Promise.{Writes, Reads, Parses}
 -- ---- writers
 
 -- a value of the kind: the parts that the kind lacks are not looked at
-abbrev pub WritesKind : Kind → Settings → Value → List ℕ → Written → List ℕ → Type 0
-WritesKind k t v lent r left = Writes (encode (kindFrom k) (settingsFrom t) (valueFrom v)) lent r left
+abbrev pub WritesKind : format.Kind → Settings → Value → List ℕ → Written → List ℕ → Type 0
+WritesKind k t v lent r left = Writes (encode k (settingsFrom t) (valueFrom v)) lent r left
 
 -- a date
 abbrev pub WritesDate : Settings → Date → List ℕ → Written → List ℕ → Type 0
@@ -62,8 +63,8 @@ WritesDatetimeTz t v lent r left = Writes (encode format.DatetimeTz (settingsFro
 -- ---- readers
 
 -- octets of the kind: all parts, of which those that the kind lacks are 0
-abbrev pub ParsesKind : Kind → List ℕ → Parsed → Type 0
-ParsesKind k s r = Parses (kindFrom k) (read (kindFrom k) s) r
+abbrev pub ParsesKind : format.Kind → List ℕ → Parsed → Type 0
+ParsesKind k s r = Parses k (read k s) r
 
 -- a date
 abbrev pub ReadsDate : List ℕ → Reading → Type 0

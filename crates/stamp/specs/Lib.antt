@@ -1,3 +1,2 @@
-pub mod Ranged
 pub mod Decoding
 pub mod Calls

@@ -3,14 +3,13 @@
 use mathlib.Core.Path.{_≡_, refl, sym, _∙_, ap}
 use mathlib.Core.Bool.{Bool, true, false, not}
 use mathlib.Core.List.{List, [], _∷_, _++_, append-nil}
-use Prim.Native.Nat.{ℕ, suc, _+_, _-_, _/_, _%_, _^_, _<_, _≤_}
+use Prim.Native.Nat.{ℕ, _+_, _-_, _/_, _%_, _<_, _≤_}
 use native.Mathlib.Nat.{zero-add}
-use native.Mathlib.Numerals.{add-one}
 use native.Mathlib.Omega.{arith}
 use lib.IntN.{ℤ, natAbs}
 use lib.Signed.{nonNeg}
 use lib.Dec.{eqb}
-use lib.ListN.{length, set, length-append}
+use lib.ListN.{length, set, take, drop, length-append}
 use lib.Seq.{sets}
 use borrow.Author.Tests.{ne-eqb, leb-true}
 use Rattle.format.specs.Words.{pick, ifAny}
@@ -18,14 +17,15 @@ use Rattle.format.specs.Calendar.{Day, leap, isDay}
 use Rattle.format.specs.Digits.{digitsOf}
 use Rattle.format.specs.Values.{Kind, dated, timed, zoned, Value, timeInRange, offsetInRange}
 use Rattle.format.specs.Fields.{Field, after, when, put, puts, width, widths}
-use Rattle.format.specs.Text.{dateRow, clockRow, offsetRow, layout, textLength, fractionUnit, textNumbers, textImage}
+use Rattle.format.specs.Text.{dateRow, clockRow, offsetRow, layout, fractionUnit, textNumbers, textImage}
 use Rattle.format.proofs.Dates.{parts, short-month}
 use Rattle.format.proofs.Clock.{seven}
-use Rattle.format.proofs.Fields.{length-digits, put-length, widths-append, puts-append}
+use Rattle.format.proofs.Fields.{length-digits, put-length, puts-append}
 use Rattle.format.proofs.Storing.{sets-then}
-use Rattle.text.specs.Putting.{dateOctets, clockOctets, offsetOctets, joint, yearMonth, hourMinuteSecond, fractionField, fractionOctets, signHour}
+use Rattle.text.specs.Putting.{dateOctets, clockOctets, offsetOctets, yearMonthDay, hourMinuteSecond, fractionField, signHourMinute, lowFirst}
+use Rattle.text.proofs.Shifting.{over, length-low, take-low}
 
--- ---- the image and its length, by parts
+-- ---- the image by its parts
 
 pub image-parts : (k : Kind) (d : ℕ) (v : Value)
     → dateOctets (dated k) (v .date) ++ (clockOctets (timed k) (dated k) d (v .micros) ++ offsetOctets (zoned k) (v .offset)) ≡ textImage k d v
@@ -42,15 +42,6 @@ image-parts k d v =
     let os : List ℕ = ifAny z (pick (nonNeg (v .offset)) 0 1) ∷ ifAny z (o / 60) ∷ ifAny z (o % 60) ∷ [] in
     ap (λ (r : List ℕ). puts (dateRow b) ds ++ r) (sym (puts-append (clockRow t b d) (offsetRow z) cs os refl))
     ∙ sym (puts-append (dateRow b) (clockRow t b d ++ offsetRow z) ds (cs ++ os) refl)
-
-pub length-parts : (k : Kind) (d : ℕ)
-    → widths (dateRow (dated k)) + (widths (clockRow (timed k) (dated k) d) + widths (offsetRow (zoned k))) ≡ textLength k d
-unfolding textLength layout
-length-parts k d =
-    let b = dateRow (dated k) in
-    let c = clockRow (timed k) (dated k) d in
-    let o = offsetRow (zoned k) in
-    sym (widths-append b (c ++ o) ∙ ap (λ (n : ℕ). widths b + n) (widths-append c o))
 
 -- a row of numbers, one for each field, is as long as the row is wide
 row-length : (fs : List Field) (vs : List ℕ) → length vs ≡ length fs → length (puts fs vs) ≡ widths fs
@@ -89,16 +80,12 @@ unfolding widths width
 date-width true = refl
 date-width false = refl
 
-pub offset-width : (b : Bool) → widths (offsetRow b) ≡ ifAny b 6
-unfolding widths width
-offset-width true = refl
-offset-width false = refl
-
 pub no-clock : (b : Bool) (d : ℕ) → widths (clockRow false b d) ≡ 0
 unfolding widths width
 no-clock b d = refl
 
-pub clock-width : (b : Bool) (d : ℕ) → widths (clockRow true b d) ≡ length (joint b) + 8 + width (fractionField d)
+-- `T` before it where there is a date
+pub clock-width : (b : Bool) (d : ℕ) → widths (clockRow true b d) ≡ ifAny b 1 + 8 + width (fractionField d)
 unfolding widths width
 clock-width true d = omega arith
 clock-width false d = omega arith
@@ -106,11 +93,6 @@ clock-width false d = omega arith
 pub fraction-width : (d : ℕ) → (d ≡ 0 → ⊥) → width (fractionField d) ≡ d + 1
 unfolding width
 fraction-width d n = rw (ne-eqb d 0 n) (omega arith)
-
--- no row is wider than a sum of these can hold
-pub joint-narrow : (b : Bool) → length (joint b) ≤ 1
-joint-narrow true = omega arith
-joint-narrow false = omega arith
 
 pub fraction-narrow : (d : ℕ) → width (fractionField d) ≤ d + 1
 unfolding width
@@ -120,106 +102,76 @@ fraction-narrow d = go (eqb d 0)
     go true = unfold width in omega arith
     go false = unfold width in omega arith
 
-pub date-narrow : (b : Bool) → widths (dateRow b) ≤ 10
-date-narrow b = rw date-width (go b)
-  where
-    go : (b : Bool) → ifAny b 10 ≤ 10
-    go true = omega arith
-    go false = omega arith
-
-pub offset-narrow : (b : Bool) → widths (offsetRow b) ≤ 6
-offset-narrow b = rw offset-width (go b)
-  where
-    go : (b : Bool) → ifAny b 6 ≤ 6
-    go true = omega arith
-    go false = omega arith
-
-pub clock-narrow : (t b : Bool) (d : ℕ) → widths (clockRow t b d) ≤ d + 10
-clock-narrow true b d = rw clock-width (omega (arith, joint-narrow b, fraction-narrow d))
-clock-narrow false b d = rw no-clock (omega arith)
-
 -- ---- the parts, from what is stored in one go
 
-length-year-month : (y m : ℕ) → length (yearMonth y m) ≡ 8
-unfolding yearMonth digitsOf
-length-year-month y m = refl
+-- a year's century and the year in it
+four-digits : (y c r : ℕ) (xs : List ℕ) → c ≡ y / 100 → r ≡ y % 100 → digitsOf 2 c ++ (digitsOf 2 r ++ xs) ≡ digitsOf 4 y ++ xs
+unfolding digitsOf
+four-digits y c r xs p q =
+    let a : c / 10 % 10 ≡ y / 10 / 10 / 10 % 10 = omega arith in
+    let b : c % 10 ≡ y / 10 / 10 % 10 = omega arith in
+    let d : r / 10 % 10 ≡ y / 10 % 10 = omega arith in
+    let e : r % 10 ≡ y % 10 = omega arith in
+    rw (a, b, d, e)
 
-pub date-stored : (l : List ℕ) (at : ℕ) (x : Day)
-    → sets (sets l at (yearMonth (x .year) (x .month))) (at + 8) (digitsOf 2 (x .day)) ≡ sets l at (dateOctets true x)
-date-stored l at x =
-    sets-then l at (at + 8) (yearMonth (x .year) (x .month)) (digitsOf 2 (x .day)) (dateOctets true x) (ap (λ (n : ℕ). at + n) (length-year-month (x .year) (x .month))) parts
+pub date-stored : (l : List ℕ) (x : Day) (c r : ℕ) → c ≡ x .year / 100 → r ≡ x .year % 100
+    → sets (sets l 0 (digitsOf 2 c)) 2 (yearMonthDay r (x .month) (x .day)) ≡ sets l 0 (dateOctets true x)
+date-stored l x c r p q =
+    sets-then l 0 2 (digitsOf 2 c) (yearMonthDay r (x .month) (x .day)) (dateOctets true x) (ap (λ (n : ℕ). 0 + n) (length-digits 2 c)) parts
   where
-    parts : yearMonth (x .year) (x .month) ++ digitsOf 2 (x .day) ≡ dateOctets true x
-    parts = unfold yearMonth dateOctets puts put digitsOf in refl
+    m : List ℕ
+    m = 45 ∷ (digitsOf 2 (x .month) ++ (45 ∷ digitsOf 2 (x .day)))
 
-length-clock : (s : ℕ) → length (hourMinuteSecond s) ≡ 8
-unfolding hourMinuteSecond digitsOf
-length-clock s = refl
+    whole : digitsOf 4 (x .year) ++ m ≡ dateOctets true x
+    whole = unfold dateOctets puts put digitsOf in refl
 
-pub clock-stored : (l : List ℕ) (at d x : ℕ)
-    → sets (sets l at (hourMinuteSecond (x / 1000000))) (at + 8) (fractionOctets d (x % 1000000)) ≡ sets l at (clockOctets true false d x)
-clock-stored l at d x =
-    sets-then l at (at + 8) (hourMinuteSecond (x / 1000000)) (fractionOctets d (x % 1000000)) (clockOctets true false d x) (ap (λ (n : ℕ). at + n) (length-clock (x / 1000000))) parts
+    parts : digitsOf 2 c ++ yearMonthDay r (x .month) (x .day) ≡ dateOctets true x
+    parts = unfold yearMonthDay in four-digits (x .year) c r m p q ∙ whole
+
+-- a point and d digits of f microseconds of the second, nothing for no digits
+unfoldable fractionOctets : ℕ → ℕ → List ℕ
+fractionOctets d f = put (fractionField d) (f / fractionUnit d)
+
+clock-parts : (d x : ℕ) → hourMinuteSecond (x / 1000000) ++ fractionOctets d (x % 1000000) ≡ clockOctets true false d x
+unfolding hourMinuteSecond clockOctets fractionOctets puts put digitsOf
+clock-parts d x = simp append-nil
+
+-- of the point and six digits, as many octets as the fraction has
+fraction-front : (f d : ℕ) → d ≤ 6 → take (width (fractionField d)) (46 ∷ digitsOf 6 f) ≡ fractionOctets d f
+unfolding width fractionOctets put fractionUnit digitsOf
+fraction-front f =
+    let e₁ : f / 100000 ≡ f / 10 / 10 / 10 / 10 / 10 = omega arith in
+    let e₂ : f / 10000 ≡ f / 10 / 10 / 10 / 10 = omega arith in
+    let e₃ : f / 1000 ≡ f / 10 / 10 / 10 = omega arith in
+    let e₄ : f / 100 ≡ f / 10 / 10 = omega arith in
+    let e₆ : f / 1 ≡ f = omega arith in
+    seven (λ d. take (width (fractionField d)) (46 ∷ digitsOf 6 f) ≡ fractionOctets d f)
+    (refl {a = []}) (rw e₁) (rw e₂) (rw e₃) (rw e₄) (refl {a = 46 ∷ digitsOf 5 (f / 10)}) (rw e₆)
+
+-- the clock, and then from so far into it on that the store ends with the fraction
+pub time-stored : (l : List ℕ) (at d x clock point n : ℕ) → d ≤ 6 → n ≡ width (fractionField d) → n ≤ 7 → lowFirst 8 clock ≡ hourMinuteSecond (x / 1000000)
+    → lowFirst 7 point ≡ 46 ∷ digitsOf 6 (x % 1000000)
+    → sets (sets l at (lowFirst 8 clock)) (at + n) (drop n (lowFirst 8 clock) ++ lowFirst n point) ≡ sets l at (clockOctets true false d x)
+time-stored l at d x clock point n h e k c p =
+    let a : n + (7 - n) ≡ 7 = omega arith in
+    let f : lowFirst n point ≡ fractionOctets d (x % 1000000) = sym (take-low n (7 - n) point) ∙ rw (a, p, e) (fraction-front (x % 1000000) d h) in
+    let g : lowFirst 8 clock ++ lowFirst n point ≡ clockOctets true false d x = rw (c, f) (clock-parts d x) in
+    over l at n (lowFirst 8 clock) (lowFirst n point) (omega (arith, length-low 8 clock)) ∙ ap (sets l at) g
+
+-- `T`, and the time behind it
+pub joint-stored : (l : List ℕ) (at d x : ℕ) → sets (set l at 84) (at + 1) (clockOctets true false d x) ≡ sets l at (clockOctets true true d x)
+joint-stored l at d x = sets-then l at (at + 1) (84 ∷ []) (clockOctets true false d x) (clockOctets true true d x) refl parts
   where
-    parts : hourMinuteSecond (x / 1000000) ++ fractionOctets d (x % 1000000) ≡ clockOctets true false d x
-    parts = unfold hourMinuteSecond clockOctets fractionOctets puts put digitsOf in simp append-nil
+    parts : 84 ∷ clockOctets true false d x ≡ clockOctets true true d x
+    parts = unfold clockOctets puts put in refl
 
-pub joint-stored : (l : List ℕ) (at : ℕ) (b : Bool) (d x : ℕ)
-    → sets (sets l at (joint b)) (at + length (joint b)) (clockOctets true false d x) ≡ sets l at (clockOctets true b d x)
-joint-stored l at b d x = sets-then l at (at + length (joint b)) (joint b) (clockOctets true false d x) (clockOctets true b d x) refl (parts b)
-  where
-    parts : (b : Bool) → joint b ++ clockOctets true false d x ≡ clockOctets true b d x
-    parts true = unfold clockOctets puts put in refl
-    parts false = unfold clockOctets puts put in refl
-
-length-sign-hour : (m : ℤ) (h : ℕ) → length (signHour m h) ≡ 4
-unfolding signHour digitsOf
-length-sign-hour m h = refl
-
-pub offset-stored : (l : List ℕ) (at : ℕ) (m : ℤ)
-    → sets (sets l at (signHour m (natAbs m / 60))) (at + 4) (digitsOf 2 (natAbs m % 60)) ≡ sets l at (offsetOctets true m)
-offset-stored l at m =
-    sets-then l at (at + 4) (signHour m (natAbs m / 60)) (digitsOf 2 (natAbs m % 60)) (offsetOctets true m) (ap (λ (n : ℕ). at + n) (length-sign-hour m (natAbs m / 60))) parts
+pub offset-parts : (m : ℤ) → signHourMinute m (natAbs m) ≡ offsetOctets true m
+unfolding signHourMinute offsetOctets puts put digitsOf
+offset-parts m = rw (mark (nonNeg m))
   where
     mark : (b : Bool) → _≡_ {A = ℕ} (pick (eqb (pick b 0 1) 0) 43 45) (pick b 43 45)
     mark true = refl
     mark false = refl
-
-    parts : signHour m (natAbs m / 60) ++ digitsOf 2 (natAbs m % 60) ≡ offsetOctets true m
-    parts = unfold signHour offsetOctets puts put digitsOf in rw (mark (nonNeg m))
-
--- ---- the fraction, digit by digit
-
--- cut to one digit more, and then to one fewer
-unit-next : (f d : ℕ) → d ≤ 6 → d < 6 → f / fractionUnit (suc d) / 10 ≡ f / fractionUnit d
-unfolding fractionUnit
-unit-next f =
-    seven (λ d. d < 6 → f / 10 ^ (6 - suc d) / 10 ≡ f / 10 ^ (6 - d))
-    (λ h. omega arith) (λ h. omega arith) (λ h. omega arith) (λ h. omega arith) (λ h. omega arith) (λ h. omega arith) (λ h. absurd (omega arith))
-
-some-digits : (d f : ℕ) → (d ≡ 0 → ⊥) → fractionOctets d f ≡ 46 ∷ digitsOf d (f / fractionUnit d)
-unfolding fractionOctets put
-some-digits d f n = rw (ne-eqb d 0 n)
-
-pub no-digits : (f : ℕ) → fractionOctets 0 f ≡ []
-unfolding fractionOctets put
-no-digits f = refl
-
--- a buffer with the point, and the first digit stored behind it
-pub first-digit : (l b b′ : List ℕ) (at f : ℕ) → b ≡ set l at 46 → b′ ≡ set b (at + 1) (48 + f / 100000 % 10) → b′ ≡ sets l at (fractionOctets 1 f)
-unfolding fractionOctets put fractionUnit digitsOf
-first-digit l b b′ at f p q = q ∙ rw (p, add-one)
-
--- a buffer with d digits, and one more digit stored behind them
-pub next-digit : (l b b′ : List ℕ) (at j d f v : ℕ) → 1 ≤ d → d < 6 → at + 1 + d ≡ j → v ≡ f / fractionUnit (suc d)
-    → b ≡ sets l at (fractionOctets d f) → b′ ≡ set b j (48 + v % 10) → b′ ≡ sets l at (fractionOctets (suc d) f)
-unfolding digitsOf
-next-digit l b b′ at j d f v h k e c p q =
-    let u : v / 10 ≡ f / fractionUnit d = rw c (unit-next f d (omega arith) k) in
-    let fewer : fractionOctets d f ≡ 46 ∷ digitsOf d (v / 10) = rw u (some-digits d f (λ z. omega arith)) in
-    let more : (46 ∷ digitsOf d (v / 10)) ++ ((48 + v % 10) ∷ []) ≡ fractionOctets (suc d) f = rw c (sym (some-digits (suc d) f (λ z. omega arith))) in
-    q ∙ rw (p, fewer)
-    (sets-then l at j (46 ∷ digitsOf d (v / 10)) ((48 + v % 10) ∷ []) (fractionOctets (suc d) f) (omega (arith, length-digits d (v / 10))) more)
 
 -- ---- what the parts in range are below
 

@@ -1,6 +1,6 @@
 -- Words of a text: a sum of digits and of the word of a text of zeros, octet by octet, is the text. Each word is first grouped from its last
 -- octet to its first (`omega` does that), and then taken apart from the first, two digits or one separator at a time. Assumes nothing.
-use mathlib.Core.Path.{_≡_, refl}
+use mathlib.Core.Path.{_≡_, refl, _∙_}
 use mathlib.Core.List.{List, [], _∷_, _++_}
 use Prim.Native.Nat.{ℕ, suc, _+_, _*_, _/_, _%_, _<_, _≤_}
 use native.Mathlib.Numerals.{add-one}
@@ -12,9 +12,7 @@ use lib.Seq.{sets}
 use mathlib.Core.Bool.{Bool, true, false}
 use Rattle.format.specs.Words.{pick}
 use Rattle.format.specs.Digits.{digitsOf}
-use Rattle.format.specs.Fields.{put}
-use Rattle.format.specs.Text.{fractionUnit}
-use Rattle.text.specs.Putting.{yearMonth, hourMinuteSecond, fractionOctets, signMark, signHour, lowFirst, duo, Duo}
+use Rattle.text.specs.Putting.{yearMonthDay, hourMinuteSecond, PointDigits, signMark, signHourMinute, lowFirst, duo}
 
 -- ---- a word stored by its halves
 
@@ -29,6 +27,15 @@ low-four l i w =
     let q : w / 256 / 256 ≡ w / 65536 = omega arith in
     rw (e, q)
 
+pub low-six : (l : List ℕ) (i w : ℕ) → sets (sets l i (lowFirst 4 w)) (i + 4) (lowFirst 2 (w / 4294967296)) ≡ sets l i (lowFirst 6 w)
+unfolding lowFirst
+low-six l i w =
+    let e : i + 4 ≡ suc (suc (suc (suc i))) = omega arith in
+    let q : w / 256 / 256 ≡ w / 65536 = omega arith in
+    let r : w / 65536 / 256 / 256 ≡ w / 4294967296 = omega arith in
+    let s : w / 4294967296 ≡ w / 256 / 256 / 256 / 256 = rw (q, r) in
+    rw (e, s)
+
 pub low-eight : (l : List ℕ) (i w : ℕ) → sets (sets l i (lowFirst 4 w)) (i + 4) (lowFirst 4 (w / 4294967296)) ≡ sets l i (lowFirst 8 w)
 unfolding lowFirst
 low-eight l i w =
@@ -37,12 +44,6 @@ low-eight l i w =
     let r : w / 65536 / 256 / 256 ≡ w / 4294967296 = omega arith in
     let s : w / 4294967296 ≡ w / 256 / 256 / 256 / 256 = rw (q, r) in
     rw (e, s)
-
--- ---- two digits
-
-pub two-digits : (v : ℕ) → v < 100 → Duo v (v % 10 * 256 + v / 10)
-unfolding duo
-two-digits v h = record { word = refl; small = omega arith }
 
 -- ---- a word taken apart from its first octet
 
@@ -71,67 +72,65 @@ two-word v h =
     let e : duo v + 12336 ≡ duo v + 12336 + 65536 * 0 = omega arith in
     rw (e, pair 0 v 0 h, end)
 
-four-digits : (y : ℕ) (r : List ℕ) → digitsOf 2 (y / 100) ++ (digitsOf 2 (y % 100) ++ r) ≡ digitsOf 4 y ++ r
-unfolding digitsOf
-four-digits y r =
-    let a : y / 100 / 10 % 10 ≡ y / 10 / 10 / 10 % 10 = omega arith in
-    let b : y / 100 % 10 ≡ y / 10 / 10 % 10 = omega arith in
-    let c : y % 100 / 10 % 10 ≡ y / 10 % 10 = omega arith in
-    let d : y % 100 % 10 ≡ y % 10 = omega arith in
-    rw (a, b, c, d)
-
-pub year-month-word : (y m : ℕ) → y < 10000 → m < 100
-    → lowFirst 8 (duo (y / 100) + duo (y % 100) * 65536 + duo m * 1099511627776 + 0x2d30302d30303030) ≡ yearMonth y m
-unfolding yearMonth
-year-month-word y m h k =
-    let w₃ = 45 + 256 * 0 in
-    let w₂ = 45 + 256 * (duo m + 12336 + 65536 * w₃) in
-    let w₁ = duo (y % 100) + 12336 + 65536 * w₂ in
-    let e : duo (y / 100) + duo (y % 100) * 65536 + duo m * 1099511627776 + 0x2d30302d30303030 ≡ duo (y / 100) + 12336 + 65536 * w₁ = omega arith in
+-- three times two digits, with a separator between; z is the word of such a text of zeros
+three-word : (c z x y v : ℕ) → c < 256 → x < 100 → y < 100 → v < 100
+    → z ≡ 12336 + c * 65536 + 12336 * 16777216 + c * 1099511627776 + 12336 * 281474976710656
+    → lowFirst 8 (duo x + duo y * 16777216 + duo v * 281474976710656 + z) ≡ digitsOf 2 x ++ (c ∷ (digitsOf 2 y ++ (c ∷ digitsOf 2 v)))
+three-word c z x y v h hx hy hv k =
+    let w₃ = duo v + 12336 in
+    let w₂ = duo y + 12336 + 65536 * (c + 256 * w₃) in
+    let w₁ = c + 256 * w₂ in
+    let e : duo x + duo y * 16777216 + duo v * 281474976710656 + z ≡ duo x + 12336 + 65536 * w₁ = omega arith in
     rw (
       e,
-      pair 6 (y / 100) w₁ (omega arith),
-      pair 4 (y % 100) w₂ (omega arith),
-      octet 3 45 (duo m + 12336 + 65536 * w₃) (omega arith),
-      pair 1 m w₃ k,
-      octet 0 45 0 (omega arith),
-      end,
-      four-digits y (45 ∷ (digitsOf 2 m ++ (45 ∷ []))),
+      pair 6 x w₁ hx,
+      octet 5 c w₂ h,
+      pair 3 y (c + 256 * w₃) hy,
+      octet 2 c w₃ h,
+      two-word v hv,
     )
 
-pub clock-word : (s : ℕ) → s < 360000
-    → lowFirst 8 (duo (s / 3600) + duo (s / 60 % 60) * 16777216 + duo (s % 60) * 281474976710656 + 0x30303a30303a3030) ≡ hourMinuteSecond s
+pub date-word : (y m d : ℕ) → (y < 100) × (m < 100) × (d < 100)
+    → lowFirst 8 (duo y + duo m * 16777216 + duo d * 281474976710656 + 0x30302d30302d3030) ≡ yearMonthDay y m d
+unfolding yearMonthDay
+date-word y m d h = three-word 45 0x30302d30302d3030 y m d (omega arith) (h .0) (h .1) (h .2) (omega arith)
+
+pub clock-word : (s h m v : ℕ) → h ≡ s / 3600 → m ≡ s / 60 % 60 → v ≡ s % 60 → s ≤ 86400
+    → lowFirst 8 (duo h + duo m * 16777216 + duo v * 281474976710656 + 0x30303a30303a3030) ≡ hourMinuteSecond s
 unfolding hourMinuteSecond
-clock-word s h =
-    let w₃ = duo (s % 60) + 12336 in
-    let w₂ = duo (s / 60 % 60) + 12336 + 65536 * (58 + 256 * w₃) in
-    let w₁ = 58 + 256 * w₂ in
-    let e : duo (s / 3600) + duo (s / 60 % 60) * 16777216 + duo (s % 60) * 281474976710656 + 0x30303a30303a3030 ≡ duo (s / 3600) + 12336 + 65536 * w₁ = omega arith in
-    rw (
-      e,
-      pair 6 (s / 3600) w₁ (omega arith),
-      octet 5 58 w₂ (omega arith),
-      pair 3 (s / 60 % 60) (58 + 256 * w₃) (omega arith),
-      octet 2 58 w₃ (omega arith),
-      two-word (s % 60) (omega arith),
-    )
+clock-word s h m v e f g k =
+    three-word 58 0x30303a30303a3030 h m v (omega arith) (omega arith) (omega arith) (omega arith) (omega arith) ∙ rw (e, f, g)
 
-pub thousandths-word : (f : ℕ) → f < 1000000 → lowFirst 4 (f / 100000 * 256 + duo (f / 1000 % 100) * 65536 + 0x3030302e) ≡ fractionOctets 3 f
-unfolding fractionOctets put fractionUnit digitsOf
-thousandths-word f h =
-    let w₂ = duo (f / 1000 % 100) + 12336 in
-    let w₁ = 48 + f / 1000 / 10 / 10 % 10 + 256 * w₂ in
-    let e : f / 100000 * 256 + duo (f / 1000 % 100) * 65536 + 0x3030302e ≡ 46 + 256 * w₁ = omega arith in
-    let a : f / 1000 % 100 / 10 % 10 ≡ f / 1000 / 10 % 10 = omega arith in
-    let b : f / 1000 % 100 % 10 ≡ f / 1000 % 10 = omega arith in
-    rw (
-      e,
-      octet 3 46 w₁ (omega arith),
-      octet 2 (48 + f / 1000 / 10 / 10 % 10) w₂ (omega arith),
-      two-word (f / 1000 % 100) (omega arith),
-      a,
-      b,
-    )
+six-digits : (f x y v : ℕ) → x ≡ f / 10000 → y ≡ f / 100 % 100 → v ≡ f % 100 → digitsOf 2 x ++ (digitsOf 2 y ++ digitsOf 2 v) ≡ digitsOf 6 f
+unfolding digitsOf
+six-digits f x y v p q r =
+    let a : x / 10 % 10 ≡ f / 10 / 10 / 10 / 10 / 10 % 10 = omega arith in
+    let b : x % 10 ≡ f / 10 / 10 / 10 / 10 % 10 = omega arith in
+    let c : y / 10 % 10 ≡ f / 10 / 10 / 10 % 10 = omega arith in
+    let d : y % 10 ≡ f / 10 / 10 % 10 = omega arith in
+    let e : v / 10 % 10 ≡ f / 10 % 10 = omega arith in
+    let g : v % 10 ≡ f % 10 = omega arith in
+    rw (a, b, c, d, e, g)
+
+pub point-word : (f x y v : ℕ) → x ≡ f / 10000 → y ≡ f / 100 % 100 → v ≡ f % 100 → f < 1000000
+    → PointDigits f (duo x * 65536 + duo y * 4294967296 + duo v * 281474976710656 + 0x3030303030302e00)
+point-word f x y v p q r h =
+    let w₃ = duo v + 12336 in
+    let w₂ = duo y + 12336 + 65536 * w₃ in
+    let w₁ = duo x + 12336 + 65536 * w₂ in
+    let e : (duo x * 65536 + duo y * 4294967296 + duo v * 281474976710656 + 0x3030303030302e00) / 256 ≡ 46 + 256 * w₁ = omega arith in
+    let s = six-digits f x y v p q r in
+    record {
+      front = omega arith;
+      octets = rw (
+        e,
+        octet 6 46 w₁ (omega arith),
+        pair 4 x w₂ (omega arith),
+        pair 2 y w₃ (omega arith),
+        two-word v (omega arith),
+        s,
+      );
+    }
 
 mark : (b : Bool) → pick b 43 45 ≤ 45
 mark true = omega arith
@@ -140,16 +139,20 @@ mark false = omega arith
 pub mark-small : (m : ℤ) → signMark m ≤ 45
 mark-small m = mark (nonNeg m)
 
-pub sign-hour-word : (m : ℤ) (h : ℕ) → h < 100 → lowFirst 4 (signMark m + duo h * 256 + 0x3a303000) ≡ signHour m h
-unfolding signHour
-sign-hour-word m h k =
-    let w₂ = 58 + 256 * 0 in
+pub offset-word : (m : ℤ) (a h v : ℕ) → h ≡ a / 60 → v ≡ a % 60 → a ≤ 1439
+    → lowFirst 6 (duo h * 256 + duo v * 4294967296 + 0x30303a303000 + signMark m) ≡ signHourMinute m a
+unfolding signHourMinute
+offset-word m a h v p q k =
+    let w₃ = duo v + 12336 in
+    let w₂ = 58 + 256 * w₃ in
     let w₁ = duo h + 12336 + 65536 * w₂ in
-    let e : signMark m + duo h * 256 + 0x3a303000 ≡ signMark m + 256 * w₁ = omega arith in
+    let e : duo h * 256 + duo v * 4294967296 + 0x30303a303000 + signMark m ≡ signMark m + 256 * w₁ = omega arith in
     rw (
       e,
-      octet 3 (signMark m) w₁ (omega (arith, mark-small m)),
-      pair 1 h w₂ k,
-      octet 0 58 0 (omega arith),
-      end,
+      octet 5 (signMark m) w₁ (omega (arith, mark-small m)),
+      pair 3 h w₂ (omega arith),
+      octet 2 58 w₃ (omega arith),
+      two-word v (omega arith),
+      p,
+      q,
     )

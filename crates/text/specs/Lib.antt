@@ -1,3 +1,6 @@
-pub mod Steps
-pub mod Taking
+pub mod Loading
+pub mod Pairs
+pub mod Parts
+pub mod Cursors
+pub mod Outcomes
 pub mod Putting

@@ -1,18 +1,18 @@
--- What the text writer's functions promise one another, in the terms of `format`: the legend.
+-- What the text writers' functions promise one another, in the terms of `format`: the legend.
 --
 --   dateOctets b x       the octets of the date x, none where the kind has no date
 --   clockOctets t b d x  the octets of the time x with d fraction digits, none where the kind has no time; `T` before it where it has a date
 --   offsetOctets z m     the octets of the offset m, none where the kind has no offset
---   joint b              `T`, nothing where the kind has no date
---   yearMonth y m        `yyyy-mm-`
+--   yearMonthDay y m d   `yy-mm-dd`, of the year in its century
 --   hourMinuteSecond s   `hh:mm:ss`, of the seconds of the day
 --   fractionField d      a point and d digits, or nothing for no digits
---   fractionOctets d f   its octets for f microseconds of the second
+--   PointDigits f w      the word w is an octet 0, a point and all six digits of f
 --   signMark m           `+` or `-`, by the sign of m
---   signHour m h         the sign of m, then `hh:`
+--   signHourMinute m a   the sign of m, then the a minutes as `hh:mm`
 --   lowFirst n w         the last n octets of w, the low one first: a word as it is stored
 --   duo v                the two digits of v as a word: the tens in the low octet, and 48 not yet added to either
 --   Duo v w              w is that word, and small
+--   Sum e w              w is the sum e of such words at their places, and so small that the word of a text of zeros can be added
 --
 -- The first three are `format`'s rows, field by field; together they are a text's image (`proofs/Putting.antt`).
 use Prim.Native.Nat.{ℕ, zero, suc, _+_, _*_, _/_, _%_, _≤_}
@@ -25,7 +25,7 @@ use lib.Dec.{eqb}
 use Rattle.format.specs.Words.{pick, ifAny}
 use Rattle.format.specs.Calendar.{Day}
 use Rattle.format.specs.Digits.{digitsOf}
-use Rattle.format.specs.Fields.{Field, after, when, put, puts}
+use Rattle.format.specs.Fields.{Field, after, when, puts}
 use Rattle.format.specs.Text.{dateRow, clockRow, offsetRow, fractionUnit}
 
 -- ---- the parts of a text
@@ -43,14 +43,10 @@ unfoldable pub offsetOctets : Bool → ℤ → List ℕ
 offsetOctets z m =
     puts (offsetRow z) (ifAny z (pick (nonNeg m) 0 1) ∷ ifAny z (natAbs m / 60) ∷ ifAny z (natAbs m % 60) ∷ [])
 
-abbrev pub joint : Bool → List ℕ
-joint true = 84 ∷ []
-joint false = []
-
 -- ---- the parts of these that are stored in one go
 
-unfoldable pub yearMonth : ℕ → ℕ → List ℕ
-yearMonth y m = digitsOf 4 y ++ (45 ∷ (digitsOf 2 m ++ (45 ∷ [])))
+unfoldable pub yearMonthDay : ℕ → ℕ → ℕ → List ℕ
+yearMonthDay y m d = digitsOf 2 y ++ (45 ∷ (digitsOf 2 m ++ (45 ∷ digitsOf 2 d)))
 
 unfoldable pub hourMinuteSecond : ℕ → List ℕ
 hourMinuteSecond s = digitsOf 2 (s / 3600) ++ (58 ∷ (digitsOf 2 (s / 60 % 60) ++ (58 ∷ digitsOf 2 (s % 60))))
@@ -58,14 +54,11 @@ hourMinuteSecond s = digitsOf 2 (s / 3600) ++ (58 ∷ (digitsOf 2 (s / 60 % 60) 
 abbrev pub fractionField : ℕ → Field
 fractionField d = when (not (eqb d 0)) (after 46 d)
 
-unfoldable pub fractionOctets : ℕ → ℕ → List ℕ
-fractionOctets d f = put (fractionField d) (f / fractionUnit d)
-
 abbrev pub signMark : ℤ → ℕ
 signMark m = pick (nonNeg m) 43 45
 
-unfoldable pub signHour : ℤ → ℕ → List ℕ
-signHour m h = signMark m ∷ (digitsOf 2 h ++ (58 ∷ []))
+unfoldable pub signHourMinute : ℤ → ℕ → List ℕ
+signHourMinute m a = signMark m ∷ (digitsOf 2 (a / 60) ++ (58 ∷ digitsOf 2 (a % 60)))
 
 -- ---- words
 
@@ -79,3 +72,11 @@ duo v = v % 10 * 256 + v / 10
 pub record Duo (v w : ℕ) : Type 0 where
   pub word : w ≡ duo v
   pub small : w ≤ 2313
+
+pub record Sum (e w : ℕ) : Type 0 where
+  pub word : w ≡ e
+  pub small : w ≤ 0x090a000000000000
+
+pub record PointDigits (f w : ℕ) : Type 0 where
+  pub front : w % 256 ≡ 0
+  pub octets : lowFirst 7 (w / 256) ≡ 46 ∷ digitsOf 6 f

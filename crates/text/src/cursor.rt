@@ -1,250 +1,135 @@
-// The reading place of a text, handed from field to field: each method answers what it read together with the next place.
-// Digits go in pairs and nothing is read twice; no method looks at what a number means.
+// The reading place, handed from field to field: a method takes the cursor, reads one field there and answers what it read with the next cursor.
 ghost use mathlib.Core.Path.{_≡_};
+ghost use mathlib.Core.Bool.{true};
 ghost use mathlib.Core.List.{[], _∷_};
 ghost use Prim.Native.Nat.{_+_, _≤_};
-ghost use lib.Dec.{eqb};
 ghost use lib.ListN.{length};
-ghost use Rattle.format.specs.Words.{pick, either};
-ghost use Rattle.format.specs.Digits.{isDigit};
-ghost use Rattle.format.specs.Fields.{after, sign, width, widths};
-ghost use Rattle.format.specs.Text.{dateRow, clockRow, offsetRow};
-ghost use Rattle.text.specs.Steps.{digitsRow, threeRow, fourRow, digitsBehind, readRow, hourField, fractionField};
-use values::Refusal;
+ghost use Rattle.format.specs.Fields.{digits, after, width};
+ghost use Rattle.format.specs.Text.{dateRow, offsetRow};
+ghost use Rattle.text.specs.Putting.{fractionField};
+ghost use Rattle.text.specs.Pairs.{rowAt, partAt};
+ghost use Rattle.text.specs.Cursors.{datedRow, timedRow, partedRow, zonedRow, joinedAt, datedTo, timedTo, partedTo, zonedTo};
+use crate::fraction;
+use crate::pairs;
+use crate::pairs::Number;
+use crate::pairs::ThreePairs;
+use crate::pairs::TwoPairs;
+use crate::parts;
+use crate::parts::Zone;
+use crate::writing;
+use calendar::Date;
 
 pub struct Cursor {
     pub at: usize,
 }
 
-// The only refusal is `Octet`, here and below.
-pub enum Digits {
-    Read(u32, Cursor),
-    Refused(Refusal),
+// Refused: an octet is wrong. So too below.
+pub enum Dated {
+    Read(Date, Cursor),
+    Refused,
 }
 
-pub enum Three {
+// Hour, minute and second.
+pub enum Timed {
     Read(u32, u32, u32, Cursor),
-    Refused(Refusal),
+    Refused,
 }
 
-pub enum Four {
-    Read(u32, u32, u32, u32, Cursor),
-    Refused(Refusal),
+// The microseconds of a second.
+pub enum Parted {
+    Read(u32, Cursor),
+    Refused,
 }
 
-fn is_digit(octet: u8) -> bool
-    ensures { λ r. ⌜ r ≡ isDigit octet ⌝ }
-{
-    if octet < 48 {
-        return false;
-    }
-    octet <= 57
-}
-
-// `+` or `-`.
-fn is_sign(octet: u8) -> bool
-    ensures { λ r. ⌜ r ≡ either (eqb octet 43) (eqb octet 45) ⌝ }
-{
-    match octet {
-        43 => true,
-        45 => true,
-        _ => false,
-    }
-}
-
-// Of a sign: 0 for `+`, 1 for `-`.
-fn minus_of(octet: u8) -> u32
-    ensures { λ r. ⌜ r ≡ pick (eqb octet 43) 0 1 ⌝ }
-{
-    if octet == 43 {
-        return 0;
-    }
-    1
+pub enum Zoned {
+    Read(Zone, Cursor),
+    Refused,
 }
 
 impl Cursor {
-    // `front` is the number so far: a digit read behind it makes it longer.
-    fn one(self, s: &[u8], front: u32) -> Digits
-        requires { ⌜ (self .at + 1 ≤ length (now s)) × (front ≤ 9999) ⌝ }
-        ensures { λ r. ⌜ digitsRow r ≡ digitsBehind front 1 (now (s .entry)) (self .at) ⌝ }
+    pub fn date(self, s: &[u8]) -> Dated
+        requires { ⌜ self .at + 10 ≤ length (now s) ⌝ }
+        ensures { λ r. ⌜ (datedRow r ≡ rowAt (dateRow true) (now (s .entry)) (self .at)) × datedTo (self .at + 10) r ⌝ }
     {
         let at = self.at;
-        let octet = s[at];
-        if !is_digit(octet) {
-            return Digits::Refused(Refusal::Octet);
-        }
-        Digits::Read(front * 10 + (octet - 48) as u32, Cursor { at: at + 1 })
+        let Number::Read(century) = pairs::pair(s, at) else {
+            return Dated::Refused;
+        };
+        let ThreePairs::Read(year, month, day) = pairs::three_pairs(s, at + 2, 45) else {
+            return Dated::Refused;
+        };
+        Dated::Read(
+            Date::new(century * 100 + year, month, day),
+            Cursor { at: at + 10 },
+        )
     }
 
-    fn two(self, s: &[u8], front: u32) -> Digits
-        requires { ⌜ (self .at + 2 ≤ length (now s)) × (front ≤ 9999) ⌝ }
-        ensures { λ r. ⌜ digitsRow r ≡ digitsBehind front 2 (now (s .entry)) (self .at) ⌝ }
+    // With the `T` behind it.
+    pub fn joined_date(self, s: &[u8]) -> Dated
+        requires { ⌜ self .at + 11 ≤ length (now s) ⌝ }
+        ensures { λ r. ⌜ (datedRow r ≡ joinedAt (now (s .entry)) (self .at)) × datedTo (self .at + 11) r ⌝ }
     {
         let at = self.at;
-        let tens = s[at];
-        let ones = s[at + 1];
-        if !is_digit(tens) {
-            return Digits::Refused(Refusal::Octet);
+        if s[at + 10] != 84 {
+            return Dated::Refused;
         }
-        if !is_digit(ones) {
-            return Digits::Refused(Refusal::Octet);
-        }
-        let number = (tens - 48) as u32 * 10 + (ones - 48) as u32;
-        Digits::Read(front * 100 + number, Cursor { at: at + 2 })
-    }
-
-    fn one_or_two(self, s: &[u8], front: u32, n: u32) -> Digits
-        requires { ⌜ (1 ≤ n) × (n ≤ 2) × (self .at + n ≤ length (now s)) × (front ≤ 9999) ⌝ }
-        ensures { λ r. ⌜ digitsRow r ≡ digitsBehind front n (now (s .entry)) (self .at) ⌝ }
-    {
-        if n == 1 {
-            return self.one(s, front);
-        }
-        self.two(s, front)
-    }
-
-    fn four(self, s: &[u8]) -> Digits
-        requires { ⌜ self .at + 4 ≤ length (now s) ⌝ }
-        ensures { λ r. ⌜ digitsRow r ≡ digitsBehind 0 4 (now (s .entry)) (self .at) ⌝ }
-    {
-        let Digits::Read(century, c1) = self.two(s, 0) else {
-            return Digits::Refused(Refusal::Octet);
+        let Dated::Read(date, mark) = self.date(s) else {
+            return Dated::Refused;
         };
-        c1.two(s, century)
+        Dated::Read(date, Cursor { at: mark.at + 1 })
     }
 
-    // Unrolled: a loop over the digits is slower.
-    fn one_to_six(self, s: &[u8], n: u32) -> Digits
-        requires { ⌜ (1 ≤ n) × (n ≤ 6) × (self .at + n ≤ length (now s)) ⌝ }
-        ensures { λ r. ⌜ digitsRow r ≡ digitsBehind 0 n (now (s .entry)) (self .at) ⌝ }
-    {
-        if n < 3 {
-            return self.one_or_two(s, 0, n);
-        }
-        let Digits::Read(two, c1) = self.two(s, 0) else {
-            return Digits::Refused(Refusal::Octet);
-        };
-        if n < 5 {
-            return c1.one_or_two(s, two, n - 2);
-        }
-        let Digits::Read(four, c2) = c1.two(s, two) else {
-            return Digits::Refused(Refusal::Octet);
-        };
-        c2.one_or_two(s, four, n - 4)
-    }
-
-    // A separator and two digits.
-    fn field2(self, s: &[u8], mark: u8) -> Digits
-        requires { ⌜ self .at + 3 ≤ length (now s) ⌝ }
-        ensures { λ r. ⌜ digitsRow r ≡ readRow (after mark 2 ∷ []) (now (s .entry)) (self .at) ⌝ }
+    pub fn clock(self, s: &[u8]) -> Timed
+        requires { ⌜ self .at + 8 ≤ length (now s) ⌝ }
+        ensures { λ r. ⌜ (timedRow r ≡ rowAt (digits 2 ∷ after 58 2 ∷ after 58 2 ∷ []) (now (s .entry)) (self .at)) × timedTo (self .at + 8) r ⌝ }
     {
         let at = self.at;
-        if s[at] != mark {
-            return Digits::Refused(Refusal::Octet);
-        }
-        let c1 = Cursor { at: at + 1 };
-        c1.two(s, 0)
+        let ThreePairs::Read(hour, minute, second) = pairs::three_pairs(s, at, 58) else {
+            return Timed::Refused;
+        };
+        Timed::Read(hour, minute, second, Cursor { at: at + 8 })
     }
 
-    // Year, month and day: 0 where the kind has no date. So too below.
-    pub fn date(self, s: &[u8], dated: bool) -> Three
-        requires { ⌜ self .at + widths (dateRow dated) ≤ length (now s) ⌝ }
-        ensures { λ r. ⌜ threeRow r ≡ readRow (dateRow dated) (now (s .entry)) (self .at) ⌝ }
-    {
-        if !dated {
-            return Three::Read(0, 0, 0, self);
-        }
-        let Digits::Read(year, c1) = self.four(s) else {
-            return Three::Refused(Refusal::Octet);
-        };
-        let Digits::Read(month, c2) = c1.field2(s, 45) else {
-            return Three::Refused(Refusal::Octet);
-        };
-        let Digits::Read(day, c3) = c2.field2(s, 45) else {
-            return Three::Refused(Refusal::Octet);
-        };
-        Three::Read(year, month, day, c3)
-    }
-
-    // Behind a `T` where there is a date.
-    fn hour(self, s: &[u8], dated: bool) -> Digits
-        requires { ⌜ self .at + width (hourField dated) ≤ length (now s) ⌝ }
-        ensures { λ r. ⌜ digitsRow r ≡ readRow (hourField dated ∷ []) (now (s .entry)) (self .at) ⌝ }
-    {
-        if dated {
-            return self.field2(s, 84);
-        }
-        self.two(s, 0)
-    }
-
-    // Without digits there is no point either.
-    fn fraction(self, s: &[u8], digits: u32) -> Digits
+    pub fn fraction(self, s: &[u8], digits: u32) -> Parted
         requires { ⌜ (self .at + width (fractionField digits) ≤ length (now s)) × (digits ≤ 6) ⌝ }
-        ensures { λ r. ⌜ digitsRow r ≡ readRow (fractionField digits ∷ []) (now (s .entry)) (self .at) ⌝ }
-    {
-        if digits == 0 {
-            return Digits::Read(0, self);
-        }
-        let at = self.at;
-        if s[at] != 46 {
-            return Digits::Refused(Refusal::Octet);
-        }
-        let c1 = Cursor { at: at + 1 };
-        c1.one_to_six(s, digits)
-    }
-
-    // Hour, minute, second and fraction.
-    pub fn clock(self, s: &[u8], timed: bool, dated: bool, digits: u32) -> Four
-        requires { ⌜ (self .at + widths (clockRow timed dated digits) ≤ length (now s)) × (digits ≤ 6) ⌝ }
-        ensures { λ r. ⌜ fourRow r ≡ readRow (clockRow timed dated digits) (now (s .entry)) (self .at) ⌝ }
-    {
-        if !timed {
-            return Four::Read(0, 0, 0, 0, self);
-        }
-        let Digits::Read(hour, c1) = self.hour(s, dated) else {
-            return Four::Refused(Refusal::Octet);
-        };
-        let Digits::Read(minute, c2) = c1.field2(s, 58) else {
-            return Four::Refused(Refusal::Octet);
-        };
-        let Digits::Read(second, c3) = c2.field2(s, 58) else {
-            return Four::Refused(Refusal::Octet);
-        };
-        let Digits::Read(fraction, c4) = c3.fraction(s, digits) else {
-            return Four::Refused(Refusal::Octet);
-        };
-        Four::Read(hour, minute, second, fraction, c4)
-    }
-
-    fn sign(self, s: &[u8]) -> Digits
-        requires { ⌜ self .at + 1 ≤ length (now s) ⌝ }
-        ensures { λ r. ⌜ digitsRow r ≡ readRow (sign ∷ []) (now (s .entry)) (self .at) ⌝ }
+        ensures { λ r. ⌜ (partedRow r ≡ partAt digits (now (s .entry)) (self .at)) × partedTo (self .at + width (fractionField digits)) r ⌝ }
     {
         let at = self.at;
-        let octet = s[at];
-        if !is_sign(octet) {
-            return Digits::Refused(Refusal::Octet);
+        // the usual ones, as a word
+        if digits == 3 {
+            let Number::Read(micros) = pairs::thousandths(s, at) else {
+                return Parted::Refused;
+            };
+            return Parted::Read(micros, Cursor { at: at + 4 });
         }
-        Digits::Read(minus_of(octet), Cursor { at: at + 1 })
+        let Number::Read(micros) = fraction::digit_by_digit(s, at, digits) else {
+            return Parted::Refused;
+        };
+        Parted::Read(
+            micros,
+            Cursor {
+                at: at + writing::fraction_length(digits),
+            },
+        )
     }
 
-    // Sign, hours and minutes.
-    pub fn offset(self, s: &[u8], zoned: bool) -> Three
-        requires { ⌜ self .at + widths (offsetRow zoned) ≤ length (now s) ⌝ }
-        ensures { λ r. ⌜ threeRow r ≡ readRow (offsetRow zoned) (now (s .entry)) (self .at) ⌝ }
+    pub fn zone(self, s: &[u8]) -> Zoned
+        requires { ⌜ self .at + 6 ≤ length (now s) ⌝ }
+        ensures { λ r. ⌜ (zonedRow r ≡ rowAt (offsetRow true) (now (s .entry)) (self .at)) × zonedTo (self .at + 6) r ⌝ }
     {
-        if !zoned {
-            return Three::Read(0, 0, 0, self);
+        let at = self.at;
+        let sign = s[at];
+        if !parts::is_sign(sign) {
+            return Zoned::Refused;
         }
-        let Digits::Read(minus, c1) = self.sign(s) else {
-            return Three::Refused(Refusal::Octet);
+        let TwoPairs::Read(hours, minutes) = pairs::two_pairs(s, at + 1) else {
+            return Zoned::Refused;
         };
-        let Digits::Read(hours, c2) = c1.two(s, 0) else {
-            return Three::Refused(Refusal::Octet);
+        let zone = Zone {
+            minus: sign == 45,
+            hours,
+            minutes,
         };
-        let Digits::Read(minutes, c3) = c2.field2(s, 58) else {
-            return Three::Refused(Refusal::Octet);
-        };
-        Three::Read(minus, hours, minutes, c3)
+        Zoned::Read(zone, Cursor { at: at + 6 })
     }
 }

@@ -1,15 +1,25 @@
-// The text form: its fields put into a lent buffer, and taken from octets by a cursor.
+// The text form: its fields put into a lent buffer, and read by a cursor that is handed from field to field.
 // For the crates of this library: callers prove what is required.
 mod cursor;
-mod fields;
+mod fraction;
+mod lengths;
+mod loading;
+mod pairs;
+mod parts;
+mod reading;
 mod words;
+mod writers;
 mod writing;
 
-pub use cursor::Cursor;
-pub use cursor::Digits;
-pub use fields::Fields;
-pub use fields::Taken;
-pub use fields::digits_in;
-pub use fields::take;
-pub use writing::length;
-pub use writing::put;
+pub use reading::read_date;
+pub use reading::read_date_tz;
+pub use reading::read_datetime;
+pub use reading::read_datetime_tz;
+pub use reading::read_time;
+pub use reading::read_time_tz;
+pub use writers::write_date;
+pub use writers::write_date_tz;
+pub use writers::write_datetime;
+pub use writers::write_datetime_tz;
+pub use writers::write_time;
+pub use writers::write_time_tz;

@@ -3,6 +3,7 @@ use borrow.Author.Needs.{needs}
 use native.Mathlib.Omega.{arith}
 use mathlib.Core.Path.{_∙_, ap}
 use lib.Signed.{mag}
+use lib.Bits.{bitOr}
 use lib.Count.{leading-le}
 use mir.Facts.{toZ-ofZ}
 use Rattle.octets.proofs.Counting.{fewest-by-zeros}
@@ -13,7 +14,7 @@ magnitude-requires : tie.Need-magnitude-requires
 magnitude-requires c κs = search needs
 
 sub-result : tie.Need-sub-result
-sub-result c = omega (arith, leading-le 64 (c .magnitude .result))
+sub-result c = omega (arith, leading-le 64 (bitOr (c .magnitude .result) 1))
 
 add-result : tie.Need-add-result
 add-result c = search needs

@@ -1,6 +1,8 @@
 -- `parse_datetime_tz` meets its contract: the form that is chosen, and what its reader answers. Assumes nothing.
-use mathlib.Core.Path.{_≡_, sym, _∙_}
+use native.Mathlib.Omega.{arith}
+use borrow.Author.Tests.{eq-eqb, ne-eqb}
 use Rattle.format.specs.Values.{DatetimeTz}
+use Rattle.format.specs.Extended.{headBits}
 use Rattle.format.specs.Reading.{firstBits}
 use Rattle.stamp.proofs.Choosing.{as-compact, as-extended, as-text}
 use borrow.Author.Needs.{needs}
@@ -10,48 +12,45 @@ use Rattle.stamp.proofs.reading.parse_datetime_tz.Tie as tie
 longest-requires : tie.Need-longest-requires
 longest-requires c κs = search needs
 
-read-compact-requires : tie.Need-read-compact-requires
-read-compact-requires c κs = search needs
+read-datetime-tz-requires : tie.Need-read-datetime-tz-requires
+read-datetime-tz-requires c κs = search needs
 
 returns : tie.Need-returns
-returns c = rw (as-compact _ _ (rw (c .before .before .longest .ensures) at (c .before .if1 .taken))) (c .read-compact .ensures)
+returns c = rw (as-compact _ _ (rw (c .before .before .longest .ensures) at (c .before .if1 .taken))) (c .read-datetime-tz .ensures)
 
-shared-slice-read-heads : tie.Need-shared-slice-read-heads
-shared-slice-read-heads c = search needs
+shared-slice-read-if2 : tie.Need-shared-slice-read-if2
+shared-slice-read-if2 c = search needs
 
-heads-requires : tie.Need-heads-requires
-heads-requires c κs = search needs
-
-read-extended-requires : tie.Need-read-extended-requires
-read-extended-requires c κs = search needs
+read-datetime-tz-requires-2 : tie.Need-read-datetime-tz-requires-2
+unfolding firstBits headBits
+read-datetime-tz-requires-2 c κs = (c .if2 .taken, omega (arith, c .before .before .before .longest .ensures, c .before .before .if1 .left))
 
 returns-2 : tie.Need-returns-2
-unfolding firstBits
+unfolding firstBits headBits
 returns-2 c =
-    let e = c .before .before in
+    let e = c .before in
     let l = e .before .before in
-    rw (as-extended DatetimeTz _ (rw (l .before .longest .ensures) at (l .if1 .left)) (sym (e .heads .ensures) ∙ c .before .if2 .taken)) (c .read-extended .ensures)
+    rw (as-extended DatetimeTz _ (rw (l .before .longest .ensures) at (l .if1 .left)) (eq-eqb _ _ (e .if2 .taken))) (c .read-datetime-tz2 .ensures)
 
-read-text-requires : tie.Need-read-text-requires
-read-text-requires c κs = search needs
+read-datetime-tz-requires-3 : tie.Need-read-datetime-tz-requires-3
+read-datetime-tz-requires-3 c κs = search needs
 
 returns-3 : tie.Need-returns-3
-unfolding firstBits
+unfolding firstBits headBits
 returns-3 c =
-    let e = c .before .before in
+    let e = c .before in
     let l = e .before .before in
-    rw (as-text DatetimeTz _ (rw (l .before .longest .ensures) at (l .if1 .left)) (sym (e .heads .ensures) ∙ c .before .if2 .left)) (c .read-text .ensures)
+    rw (as-text DatetimeTz _ (rw (l .before .longest .ensures) at (l .if1 .left)) (ne-eqb _ _ (e .if2 .left))) (c .read-datetime-tz3 .ensures)
 
 pub parse-datetime-tz-spec : {M : Type 1} → statement M
 parse-datetime-tz-spec =
     tie.close
     (tie.spec
     longest-requires
-    read-compact-requires
+    read-datetime-tz-requires
     returns
-    shared-slice-read-heads
-    heads-requires
-    read-extended-requires
+    shared-slice-read-if2
+    read-datetime-tz-requires-2
     returns-2
-    read-text-requires
+    read-datetime-tz-requires-3
     returns-3)

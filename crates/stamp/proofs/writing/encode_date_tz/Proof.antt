@@ -19,8 +19,8 @@ in-range-requires c κs = search needs
 returns : tie.Need-returns
 returns c = rw (too-many _ _ _ (sym (c .before .in-range .ensures) ∙ not-true _ (c .if1 .taken))) (refuses 1 _)
 
-write-compact-requires : tie.Need-write-compact-requires
-write-compact-requires c κs = search needs
+write-date-tz-requires : tie.Need-write-date-tz-requires
+write-date-tz-requires c κs = search needs
 
 same-length : tie.Need-same-length
 same-length c = search needs
@@ -30,10 +30,10 @@ unfolding formFor
 returns-2 c =
     let w = c .before .before in
     let t = w .before .before in
-    rw (in-form _ _ _ (few (t .before)), t .if2 .taken) (w .write-compact .ensures)
+    rw (in-form _ _ _ (few (t .before)), t .if2 .taken) (w .write-date-tz .ensures)
 
-write-text-requires : tie.Need-write-text-requires
-write-text-requires c κs = search needs
+write-date-tz-requires-2 : tie.Need-write-date-tz-requires-2
+write-date-tz-requires-2 c κs = search needs
 
 same-length-2 : tie.Need-same-length-2
 same-length-2 c = search needs
@@ -43,7 +43,7 @@ unfolding formFor
 returns-3 c =
     let w = c .before .before in
     let t = w .before .before in
-    rw (in-form _ _ _ (few (t .before)), t .if2 .left) (w .write-text .ensures)
+    rw (in-form _ _ _ (few (t .before)), t .if2 .left) (w .write-date-tz2 .ensures)
 
 pub encode-date-tz-spec : {M : Type 1} → statement M
 encode-date-tz-spec =
@@ -51,9 +51,9 @@ encode-date-tz-spec =
     (tie.spec
     in-range-requires
     returns
-    write-compact-requires
+    write-date-tz-requires
     same-length
     returns-2
-    write-text-requires
+    write-date-tz-requires-2
     same-length-2
     returns-3)

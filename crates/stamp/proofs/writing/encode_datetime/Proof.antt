@@ -25,20 +25,20 @@ form-requires c κs = search needs
 enum-known-digits : tie.Need-enum-known-digits
 enum-known-digits c = search needs
 
-write-text-requires : tie.Need-write-text-requires
-write-text-requires c κs = chosen-digits _ _ _ (few (c .before .before .before .before .before)) _ (sym (c .before .before .before .before .form .ensures) ∙ ap formFrom (c .before .before .digits .given .1))
+write-datetime-requires : tie.Need-write-datetime-requires
+write-datetime-requires c κs = chosen-digits _ _ _ (few (c .before .before .before .before .before)) _ (sym (c .before .before .before .before .form .ensures) ∙ ap formFrom (c .before .before .digits .given .1))
 
 enum-told : tie.Need-enum-told
 enum-told c = search needs
 
-write-compact-requires : tie.Need-write-compact-requires
-write-compact-requires c κs = search needs
+write-datetime-requires-2 : tie.Need-write-datetime-requires-2
+write-datetime-requires-2 c κs = search needs
 
 enum-told-2 : tie.Need-enum-told-2
 enum-told-2 c = search needs
 
-write-extended-requires : tie.Need-write-extended-requires
-write-extended-requires c κs = search needs
+write-datetime-requires-3 : tie.Need-write-datetime-requires-3
+write-datetime-requires-3 c κs = search needs
 
 same-length : tie.Need-same-length
 same-length c = search needs
@@ -48,7 +48,7 @@ returns-2 c =
     let w = c .before .before in
     let t = w .before .before in
     let f = t .before .before .before in
-    rw (in-form _ _ _ (few (f .before)), sym (f .form .ensures) ∙ ap formFrom (t .before .digits .given .1)) (w .write-text .ensures)
+    rw (in-form _ _ _ (few (f .before)), sym (f .form .ensures) ∙ ap formFrom (t .before .digits .given .1)) (w .write-datetime .ensures)
 
 same-length-2 : tie.Need-same-length-2
 same-length-2 c = search needs
@@ -58,7 +58,7 @@ returns-3 c =
     let w = c .before .before in
     let t = w .before .before in
     let f = t .before .before in
-    rw (in-form _ _ _ (few (f .before)), sym (f .form .ensures) ∙ ap formFrom (t .enum-told .given .1)) (w .write-compact .ensures)
+    rw (in-form _ _ _ (few (f .before)), sym (f .form .ensures) ∙ ap formFrom (t .enum-told .given .1)) (w .write-datetime2 .ensures)
 
 same-length-3 : tie.Need-same-length-3
 same-length-3 c = search needs
@@ -68,7 +68,7 @@ returns-4 c =
     let w = c .before .before in
     let t = w .before .before in
     let f = t .before .before in
-    rw (in-form _ _ _ (few (f .before)), sym (f .form .ensures) ∙ ap formFrom (t .enum-told2 .given .1)) (w .write-extended .ensures)
+    rw (in-form _ _ _ (few (f .before)), sym (f .form .ensures) ∙ ap formFrom (t .enum-told2 .given .1)) (w .write-datetime3 .ensures)
 
 pub encode-datetime-spec : {M : Type 1} → statement M
 encode-datetime-spec =
@@ -78,11 +78,11 @@ encode-datetime-spec =
     returns
     form-requires
     enum-known-digits
-    write-text-requires
+    write-datetime-requires
     enum-told
-    write-compact-requires
+    write-datetime-requires-2
     enum-told-2
-    write-extended-requires
+    write-datetime-requires-3
     same-length
     returns-2
     same-length-2

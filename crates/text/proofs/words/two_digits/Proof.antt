@@ -1,5 +1,5 @@
--- `two_digits` meets its contract. Assumes nothing.
-use Rattle.text.proofs.PuttingWords.{two-digits}
+-- `two_digits` meets its contract: the law of two digits. Assumes nothing.
+use Rattle.text.proofs.Lanes.{two-digits}
 use borrow.Author.Needs.{needs}
 use Rattle.text.proofs.words.two_digits.Statement.{statement}
 use Rattle.text.proofs.words.two_digits.Tie as tie
@@ -7,14 +7,17 @@ use Rattle.text.proofs.words.two_digits.Tie as tie
 mul-result : tie.Need-mul-result
 mul-result c = search needs
 
-add-result : tie.Need-add-result
-add-result c = search needs
+mul-result-2 : tie.Need-mul-result-2
+mul-result-2 c = search needs
 
-cast-result : tie.Need-cast-result
-cast-result c = search needs
+mul-result-3 : tie.Need-mul-result-3
+mul-result-3 c = search needs
+
+sub-result : tie.Need-sub-result
+sub-result c = search needs
 
 returns : tie.Need-returns
 returns c = two-digits (c .args .v) (c .pre)
 
 pub two-digits-spec : {M : Type 1} → statement M
-two-digits-spec = tie.close (tie.spec mul-result add-result cast-result returns)
+two-digits-spec = tie.close (tie.spec mul-result mul-result-2 mul-result-3 sub-result returns)

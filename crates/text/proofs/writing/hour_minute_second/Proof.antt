@@ -1,49 +1,56 @@
 -- `hour_minute_second` meets its contract: the word law, once each part is two digits. Assumes nothing.
-use Rattle.text.proofs.PuttingWords.{clock-word}
 use native.Mathlib.Omega.{arith}
+use Prim.Native.Nat.{_-_, _*_}
+use Rattle.text.proofs.PuttingWords.{clock-word}
 use borrow.Author.Needs.{needs}
 use Rattle.text.proofs.writing.hour_minute_second.Statement.{statement}
 use Rattle.text.proofs.writing.hour_minute_second.Tie as tie
 
-two-digits-requires : tie.Need-two-digits-requires
-two-digits-requires c κs = search needs
+minutes-in-requires : tie.Need-minutes-in-requires
+minutes-in-requires c κs = search needs
 
-two-digits-requires-2 : tie.Need-two-digits-requires-2
-two-digits-requires-2 c κs = search needs
+hours-in-requires : tie.Need-hours-in-requires
+hours-in-requires c κs = search needs
 
-mul-result : tie.Need-mul-result
-mul-result c = search needs
+mul-clock-digits : tie.Need-mul-clock-digits
+mul-clock-digits c = search needs
+
+sub-clock-digits : tie.Need-sub-clock-digits
+sub-clock-digits c = search needs
+
+mul-clock-digits-2 : tie.Need-mul-clock-digits-2
+mul-clock-digits-2 c = search needs
+
+sub-clock-digits-2 : tie.Need-sub-clock-digits-2
+sub-clock-digits-2 c = search needs
+
+clock-digits-requires : tie.Need-clock-digits-requires
+clock-digits-requires c κs = search needs
 
 add-result : tie.Need-add-result
 add-result c = search needs
 
-two-digits-requires-3 : tie.Need-two-digits-requires-3
-two-digits-requires-3 c κs = search needs
-
-mul-result-2 : tie.Need-mul-result-2
-mul-result-2 c = search needs
-
-add-result-2 : tie.Need-add-result-2
-add-result-2 c = omega arith
-
-add-result-3 : tie.Need-add-result-3
-add-result-3 c = omega arith
-
 returns : tie.Need-returns
 returns c =
-    rw (c .before .before .two-digits .ensures .word, c .before .two-digits2 .ensures .word, c .two-digits3 .ensures .word)
-    (clock-word (c .before .before .before .args .seconds) (c .before .before .before .pre))
+    let h = c .before in
+    let m = h .before in
+    let a = m .before in
+    let s = a .args .seconds in
+    let hours = h .hours-in .result in
+    let minutes = m .minutes-in .result in
+    rw (c .clock-digits .ensures .word)
+    (clock-word s hours (minutes - 60 * hours) (s - 60 * minutes) (h .hours-in .ensures) (omega (arith, h .hours-in .ensures, m .minutes-in .ensures)) (omega (arith, m .minutes-in .ensures)) (a .pre))
 
 pub hour-minute-second-spec : {M : Type 1} → statement M
 hour-minute-second-spec =
     tie.close
     (tie.spec
-    two-digits-requires
-    two-digits-requires-2
-    mul-result
+    minutes-in-requires
+    hours-in-requires
+    mul-clock-digits
+    sub-clock-digits
+    mul-clock-digits-2
+    sub-clock-digits-2
+    clock-digits-requires
     add-result
-    two-digits-requires-3
-    mul-result-2
-    add-result-2
-    add-result-3
     returns)

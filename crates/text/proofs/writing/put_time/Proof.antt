@@ -1,48 +1,66 @@
--- `put_time` meets its contract: a word of eight octets, then the fraction. Assumes nothing.
+-- `put_time` meets its contract: the clock, and over its end the word that ends with the fraction. Assumes nothing.
 use mathlib.Core.Path.{_∙_}
 use native.Mathlib.Omega.{arith}
-use Rattle.text.proofs.Putting.{time-small, clock-stored}
+use Prim.Native.Nat.{_/_}
 use denote.Ref.{now}
+use Rattle.text.proofs.Putting.{time-small, fraction-narrow, time-stored}
 use borrow.Author.Needs.{needs}
 use Rattle.text.proofs.writing.put_time.Statement.{statement}
 use Rattle.text.proofs.writing.put_time.Tie as tie
 
-cast-seconds : tie.Need-cast-seconds
-cast-seconds c = omega (arith, time-small (c .before .args .time .micros) (c .before .pre .0))
-
-cast-rest : tie.Need-cast-rest
-cast-rest c = search needs
-
 hour-minute-second-requires : tie.Need-hour-minute-second-requires
-hour-minute-second-requires c κs = omega (arith, time-small (c .before .before .args .time .micros) (c .before .before .pre .0))
+hour-minute-second-requires c κs = omega (arith, time-small (c .before .args .time .micros) (c .before .pre .0))
+
+cast-point-digits : tie.Need-cast-point-digits
+cast-point-digits c = search needs
+
+point-digits-requires : tie.Need-point-digits-requires
+point-digits-requires c κs = search needs
+
+fraction-length-requires : tie.Need-fraction-length-requires
+fraction-length-requires c κs = search needs
 
 put-eight-requires : tie.Need-put-eight-requires
 put-eight-requires c κs = search needs
 
-add-put-fraction : tie.Need-add-put-fraction
-add-put-fraction c = search needs
+add-put-eight : tie.Need-add-put-eight
+add-put-eight c = search needs
 
-put-fraction-requires : tie.Need-put-fraction-requires
-put-fraction-requires c κs = search needs
+shifted-requires : tie.Need-shifted-requires
+shifted-requires c κs =
+    let l = c .before .before .before .before .before in
+    let a = l .before .before .before .before in
+    (omega (arith, l .fraction-length .ensures, fraction-narrow (a .args .digits), a .pre .1), l .before .point-digits .ensures .front)
+
+put-eight-requires-2 : tie.Need-put-eight-requires-2
+put-eight-requires-2 c κs = search needs
 
 same-length : tie.Need-same-length
 same-length c = search needs
 
 returns : tie.Need-returns
 returns c =
-    let a = c .before .before .before .before .before .before .before .before .before .before in
-    c .before .before .put-fraction .ensures
-    ∙ rw (c .before .before .before .before .before .before .put-eight .ensures, c .before .before .before .before .before .before .before .hour-minute-second .ensures) (clock-stored (now (a .args .buf)) (a .args .at) (a .args .digits) (a .args .time .micros))
+    let l = c .before .before .before .before .before .before .before .before .before in
+    let p = l .before in
+    let k = p .before in
+    let a = k .before .before in
+    let few = fraction-narrow (a .args .digits) in
+    c .before .before .put-eight2 .ensures
+    ∙ rw (c .before .before .before .before .before .before .before .put-eight .ensures, c .before .before .before .shifted .ensures)
+    (time-stored (now (a .args .buf)) (a .args .at) (a .args .digits) (a .args .time .micros) (k .hour-minute-second .result) (p .point-digits .result / 256) (l .fraction-length .result)
+    (a .pre .1) (l .fraction-length .ensures) (omega (arith, l .fraction-length .ensures, few, a .pre .1)) (k .hour-minute-second .ensures) (p .point-digits .ensures .octets))
 
 pub put-time-spec : {M : Type 1} → statement M
 put-time-spec =
     tie.close
     (tie.spec
-    cast-seconds
-    cast-rest
     hour-minute-second-requires
+    cast-point-digits
+    point-digits-requires
+    fraction-length-requires
     put-eight-requires
-    add-put-fraction
-    put-fraction-requires
+    add-put-eight
+    shifted-requires
+    put-eight-requires-2
     same-length
     returns)

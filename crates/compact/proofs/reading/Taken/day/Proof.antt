@@ -1,41 +1,46 @@
--- `Taken::day` meets its contract: the number split by floor, and counted from the first day. Assumes nothing.
-use mathlib.Core.Path.{_≡_, _∙_, ap}
+-- `Taken::day` meets its contract: the count divided by the kind's units of a day. Assumes nothing.
+use mathlib.Core.Path.{_≡_, sym, _∙_}
+use Prim.Native.Nat.{_/_, _<_}
 use native.Mathlib.Omega.{arith}
-use lib.IntN.{pos, natAbs, _+ℤ_}
-use mir.Syntax.{w32, w64}
-use mir.Val.{toZ, ofZ}
-use mir.Facts.{toZ-ofZ}
-use borrow.Author.Needs.{needs, sfits-of}
+use borrow.Author.Needs.{needs}
 use Rattle.values.specs.Meaning.{kindFrom}
-use Rattle.octets.proofs.Integers.{unsigned}
 use Rattle.compact.specs.Meaning.{dayTaken}
-use Rattle.compact.proofs.Flags.{day-split, day-small}
+use Rattle.compact.proofs.Flags.{units-timed, units-plain, day-small}
 use Rattle.compact.proofs.reading.Taken.day.Statement.{statement}
 use Rattle.compact.proofs.reading.Taken.day.Tie as tie
 
-sum : (c : tie.After-days-in) → toZ w64 (ofZ w64 (c .days-in .result)) +ℤ pos 737424 ≡ pos (dayTaken (kindFrom (c .before .before .args .kind)) (c .before .before .args .self))
-sum c =
-    let a = c .before .before in
-    let x = a .args .self .number in
-    let n : toZ w64 (ofZ w64 x) ≡ x = toZ-ofZ (sfits-of (search needs)) in
-    rw (toZ-ofZ (record { sfits = c .days-in .ok }), c .days-in .ensures, n) (day-split (kindFrom (a .args .kind)) (a .args .self .front) x (a .pre .1) (a .pre .0))
+small : (c : tie.Start) → dayTaken (kindFrom (c .args .kind)) (c .args .self) < 3652059
+small c = day-small (kindFrom (c .args .kind)) (c .args .self .front) (c .args .self .number) (c .pre .1) (c .pre .0)
 
-days-in-requires : tie.Need-days-in-requires
-days-in-requires c κs = search needs
+with-time : (c : tie.Then1)
+    → (let n = c .before .before in n .count .result / 86400000 ≡ dayTaken (kindFrom (n .before .args .kind)) (n .before .args .self))
+with-time c =
+    let n = c .before .before in
+    rw (n .count .ensures, units-timed (kindFrom (n .before .args .kind)) (sym (c .before .timed .ensures) ∙ c .if1 .taken))
 
-add-result : tie.Need-add-result
-add-result c =
-    let a = c .before .before in
-    rw (sum c) (sfits-of (omega (arith, day-small (kindFrom (a .args .kind)) (a .args .self .front) (a .args .self .number) (a .pre .1) (a .pre .0))))
+without-time : (c : tie.Else1) → (let n = c .before .before in n .count .result ≡ dayTaken (kindFrom (n .before .args .kind)) (n .before .args .self))
+without-time c =
+    let n = c .before .before in
+    rw (units-plain (kindFrom (n .before .args .kind)) (sym (c .before .timed .ensures) ∙ c .if1 .left)) (omega (arith, n .count .ensures))
+
+count-requires : tie.Need-count-requires
+count-requires c κs = search needs
+
+timed-requires : tie.Need-timed-requires
+timed-requires c κs = search needs
 
 cast-result : tie.Need-cast-result
-cast-result c =
-    let a = c .before .before in
-    unsigned w32 _ (dayTaken (kindFrom (a .args .kind)) (a .args .self)) (toZ-ofZ (add-result c) ∙ sum c)
-    (omega (arith, day-small (kindFrom (a .args .kind)) (a .args .self .front) (a .args .self .number) (a .pre .1) (a .pre .0)))
+cast-result c = record { fits = omega (arith, with-time c, small (c .before .before .before)) }
 
 returns : tie.Need-returns
-returns c = ap natAbs (toZ-ofZ (add-result c) ∙ sum c)
+returns c = with-time c
+
+cast-result-2 : tie.Need-cast-result-2
+cast-result-2 c = record { fits = omega (arith, without-time c, small (c .before .before .before)) }
+
+returns-2 : tie.Need-returns-2
+returns-2 c = without-time c
 
 pub day-spec : {M : Type 1} → statement M
-day-spec = tie.close (tie.spec days-in-requires add-result cast-result returns)
+day-spec =
+    tie.close (tie.spec count-requires timed-requires cast-result returns cast-result-2 returns-2)

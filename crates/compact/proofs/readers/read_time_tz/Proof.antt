@@ -1,0 +1,47 @@
+-- `read_time_tz` meets its contract: what was seen at a glance is what was taken; of a rare length, what `read` says. Assumes nothing.
+use borrow.Author.Needs.{needs}
+use mathlib.Core.Path.{_≡_, refl, sym, _∙_}
+use native.Mathlib.Omega.{arith}
+use Rattle.format.specs.Values.{TimeTz}
+use Rattle.compact.specs.declared.common.Seen.the-variants as S
+use Rattle.compact.specs.Meaning.{Sees}
+use Rattle.compact.proofs.ReadingSteps.{by-taken}
+use Rattle.compact.proofs.Seeing.{never-carried}
+use Rattle.compact.proofs.readers.read_time_tz.Statement.{statement}
+use Rattle.compact.proofs.readers.read_time_tz.Tie as tie
+
+time-alone-or-behind-requires : tie.Need-time-alone-or-behind-requires
+time-alone-or-behind-requires c κs = search needs
+
+enum-known-taken : tie.Need-enum-known-taken
+enum-known-taken c = search needs
+
+answer-requires : tie.Need-answer-requires
+answer-requires c κs = search needs
+
+enum-told : tie.Need-enum-told
+enum-told c = search needs
+
+read-requires : tie.Need-read-requires
+read-requires c κs = search needs
+
+returns : tie.Need-returns
+returns c =
+    let g = c .before .before .before .before in
+    let e : Sees TimeTz (g .before .before .args .s .now) (S.Taken _) = rw (c .before .before .taken .given .1) at (g .time-alone-or-behind .ensures) in
+    c .answer .ensures ∙ sym (by-taken TimeTz _ _ (e .0) (e .1))
+
+returns-2 : tie.Need-returns-2
+returns-2 c = search needs
+
+pub read-time-tz-spec : {M : Type 1} → statement M
+read-time-tz-spec =
+    tie.close
+    (tie.spec
+    time-alone-or-behind-requires
+    enum-known-taken
+    answer-requires
+    enum-told
+    read-requires
+    returns
+    returns-2)

@@ -1,0 +1,162 @@
+// Reading, a kind at a time: the length, the header, the ranges, each before the next. The caller has seen the header's first four bits.
+ghost use mathlib.Core.Path.{_≡_};
+ghost use Prim.Native.Nat.{_%_, _<_, _≤_};
+ghost use lib.Dec.{eqb};
+ghost use lib.ListN.{length};
+ghost use Rattle.format.specs.Values.{timeInRange};
+ghost use Rattle.format.specs.Values as format;
+ghost use Rattle.format.specs.Octets.{unsignedAt};
+ghost use Rattle.format.specs.Extended.{headBits, offsetFrom};
+ghost use Rattle.format.specs.Reading.{firstBits, readAs};
+ghost use Rattle.values.specs.Promise.{Parses};
+use crate::head;
+use calendar::Date;
+use calendar::Dated;
+use values::Form;
+use values::Offset;
+use values::Parsed;
+use values::Refusal;
+use values::Time;
+use values::Value;
+
+// ---- what stands where
+
+// Whether a plain header's twelve bits are zero: its first octet is 1000 0000 then, and its second 0. Both are compared at once, the least
+// significant first.
+fn is_plain(s: &[u8]) -> bool
+    requires { ⌜ (2 ≤ length (now s)) × (firstBits (now s) ≡ 8) ⌝ }
+    ensures { λ r. ⌜ r ≡ eqb (unsignedAt (now (s .entry)) 0 2 % 4096) 0 ⌝ }
+{
+    (s[0] as u32) + (s[1] as u32) * 256 == 128
+}
+
+fn offset_in(s: &[u8]) -> Offset
+    requires { ⌜ 2 ≤ length (now s) ⌝ }
+    ensures { λ r. ⌜ r .minutes ≡ offsetFrom (unsignedAt (now (s .entry)) 0 2 % 4096) ⌝ }
+{
+    let header = (s[0] as u32) * 256 + (s[1] as u32);
+    head::offset_of(header % 4096)
+}
+
+// Whether the microseconds of a Time or a TimeTz are at most 24:00, 0x14_1dd7_6000: mostly the first octet tells.
+fn time_fits(s: &[u8]) -> bool
+    requires { ⌜ 7 ≤ length (now s) ⌝ }
+    ensures { λ r. ⌜ r ≡ timeInRange (unsignedAt (now (s .entry)) 2 5) ⌝ }
+{
+    let high = s[2];
+    if high < 0x14 {
+        return true;
+    }
+    if high != 0x14 {
+        return false;
+    }
+    octets::take4(s, 3) <= 0x1dd7_6000
+}
+
+fn time_in(s: &[u8]) -> Time
+    requires { ⌜ 7 ≤ length (now s) ⌝ }
+    ensures { λ r. ⌜ r .micros ≡ unsignedAt (now (s .entry)) 2 5 ⌝ }
+{
+    Time::new((s[2] as u64) * 0x1_0000_0000 + (octets::take4(s, 3) as u64))
+}
+
+// Day number and microseconds of a Datetime or a DatetimeTz are one word of 8 octets: the first 3, and the other 5.
+fn day_in(s: &[u8]) -> u32
+    requires { ⌜ 10 ≤ length (now s) ⌝ }
+    ensures { λ r. ⌜ r ≡ unsignedAt (now (s .entry)) 2 3 ⌝ }
+{
+    (octets::take8(s, 2) / 0x100_0000_0000) as u32
+}
+
+fn time_of_day_in(s: &[u8]) -> Time
+    requires { ⌜ 10 ≤ length (now s) ⌝ }
+    ensures { λ r. ⌜ r .micros ≡ unsignedAt (now (s .entry)) 5 5 ⌝ }
+{
+    Time::new(octets::take8(s, 2) % 0x100_0000_0000)
+}
+
+// ---- the four kinds
+
+pub fn read_time(s: &[u8]) -> Parsed
+    requires { ⌜ (firstBits (now s) ≡ headBits format.Time) × (0 < length (now s)) ⌝ }
+    ensures { λ r. ⌜ Parses format.Time (readAs format.Time format.extended (now (s .entry))) r ⌝ }
+{
+    if s.len() != 7 {
+        return Parsed::Refused(Refusal::Length);
+    }
+    if !is_plain(s) {
+        return Parsed::Refused(Refusal::Octet);
+    }
+    if !time_fits(s) {
+        return Parsed::Refused(Refusal::Range);
+    }
+    let date = Date::new(0, 0, 0);
+    let time = time_in(s);
+    let offset = Offset::new(0);
+    let value = Value { date, time, offset };
+    Parsed::Stamp(Form::Extended, value)
+}
+
+pub fn read_time_tz(s: &[u8]) -> Parsed
+    requires { ⌜ (firstBits (now s) ≡ headBits format.TimeTz) × (0 < length (now s)) ⌝ }
+    ensures { λ r. ⌜ Parses format.TimeTz (readAs format.TimeTz format.extended (now (s .entry))) r ⌝ }
+{
+    if s.len() != 7 {
+        return Parsed::Refused(Refusal::Length);
+    }
+    let offset = offset_in(s);
+    if !offset.in_range() {
+        return Parsed::Refused(Refusal::Range);
+    }
+    if !time_fits(s) {
+        return Parsed::Refused(Refusal::Range);
+    }
+    let date = Date::new(0, 0, 0);
+    let time = time_in(s);
+    let value = Value { date, time, offset };
+    Parsed::Stamp(Form::Extended, value)
+}
+
+pub fn read_datetime(s: &[u8]) -> Parsed
+    requires { ⌜ (firstBits (now s) ≡ headBits format.Datetime) × (0 < length (now s)) ⌝ }
+    ensures { λ r. ⌜ Parses format.Datetime (readAs format.Datetime format.extended (now (s .entry))) r ⌝ }
+{
+    if s.len() != 10 {
+        return Parsed::Refused(Refusal::Length);
+    }
+    if !is_plain(s) {
+        return Parsed::Refused(Refusal::Octet);
+    }
+    let time = time_of_day_in(s);
+    if !time.in_range() {
+        return Parsed::Refused(Refusal::Range);
+    }
+    let Dated::Date(date) = calendar::date_of(day_in(s)) else {
+        return Parsed::Refused(Refusal::Range);
+    };
+    let offset = Offset::new(0);
+    let value = Value { date, time, offset };
+    Parsed::Stamp(Form::Extended, value)
+}
+
+pub fn read_datetime_tz(s: &[u8]) -> Parsed
+    requires { ⌜ (firstBits (now s) ≡ headBits format.DatetimeTz) × (0 < length (now s)) ⌝ }
+    ensures { λ r. ⌜ Parses format.DatetimeTz (readAs format.DatetimeTz format.extended (now (s .entry))) r ⌝ }
+{
+    if s.len() != 10 {
+        return Parsed::Refused(Refusal::Length);
+    }
+    let offset = offset_in(s);
+    if !offset.in_range() {
+        return Parsed::Refused(Refusal::Range);
+    }
+    let time = time_of_day_in(s);
+    if !time.in_range() {
+        return Parsed::Refused(Refusal::Range);
+    }
+    let Dated::Date(date) = calendar::date_of(day_in(s)) else {
+        return Parsed::Refused(Refusal::Range);
+    };
+    let value = Value { date, time, offset };
+    Parsed::Stamp(Form::Extended, value)
+}
