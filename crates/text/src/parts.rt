@@ -62,19 +62,15 @@ impl Clock {
 }
 
 impl Zone {
+    // One sum: signs come at random, and a branch on one is guessed wrong half the time.
     pub fn is_minus_zero(self) -> bool
         ensures { λ r. ⌜ r ≡ both (self .minus) (both (eqb (self .hours) 0) (eqb (self .minutes) 0)) ⌝ }
     {
         let minus = self.minus;
         let hours = self.hours;
         let minutes = self.minutes;
-        if !minus {
-            return false;
-        }
-        if hours != 0 {
-            return false;
-        }
-        minutes == 0
+        let plus = !minus as u64;
+        plus + hours as u64 + minutes as u64 == 0
     }
 
     pub fn in_range(self) -> bool
