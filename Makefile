@@ -56,7 +56,7 @@ build/%.o: measure/%.c $(wildcard measure/*.h) include/stamp.h Makefile
 	mkdir -p build
 	tool/with-kit clang --target=$(MACHINE)-unknown-linux-gnu -std=c99 $(LEVEL) -DLEVEL='"$(LEVEL)"' -Wall -Wextra $(HEADERS) -Iinclude -c $< -o $@
 
-build/measure: build/measure.o build/plain.o $(NATIVE) build/libmeasured.a
+build/measure: build/measure.o build/plain_reading.o build/plain_writing.o build/plain_calendar.o $(NATIVE) build/libmeasured.a
 	$(CC) $^ -o $@
 
 measure: build/measure

@@ -83,7 +83,7 @@ def page(about, rows, runs, load):
     return '\n'.join([
         '# Measure',
         '',
-        'Our calls beside a plain C version of the same work (`measure/plain.c`). `make measure` writes this page; nothing in it is written by hand.',
+        'Our calls beside a plain C version of the same work (`measure/plain_*.c`). `make measure` writes this page; nothing in it is written by hand.',
         '',
         f'- Processor: {processor()}, {os.cpu_count()} of them; load average {load:.2f} at the start.',
         f'- Machine: {machine()}.',

@@ -1,4 +1,6 @@
 -- `put_datetime_of` meets its contract: the eight octets behind the header are the three and the five. Assumes nothing.
+use mathlib.Core.Path.{_∙_, ap}
+use lib.Seq.{sets}
 use Rattle.extended.proofs.Image.{then-stored}
 use Rattle.extended.proofs.Storing.{eight-octets}
 use borrow.Author.Needs.{needs}
@@ -24,7 +26,7 @@ returns : tie.Need-returns
 returns c =
     let a = c .before .before .before .before .before .before .before .before .before .args in
     then-stored (a .buf .now) _ _ 0 2 (a .header) _ (c .before .before .before .before .before .before .put2 .ensures)
-    (rw (eight-octets (a .day) (a .micros) (c .before .before .before .before .before .before .before .before .before .pre .2)) at (c .before .before .put8 .ensures))
+    (c .before .before .put8 .ensures ∙ ap (sets _ 2) (eight-octets (a .day) (a .micros) (c .before .before .before .before .before .before .before .before .before .pre .2)))
 
 pub put-datetime-of-spec : {M : Type 1} → statement M
 put-datetime-of-spec =
