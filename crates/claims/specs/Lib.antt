@@ -1,5 +1,6 @@
 pub mod Claims
 pub mod Refusals
+pub mod ReaderRefusals
 pub mod Calendar
 pub mod Examples
 pub mod CodeClaims
