@@ -35,7 +35,7 @@ BufferLast =
     → (leb (length xs) room ≡ false → counts (accepted xs) room ≡ refused 4)
     × (leb (length xs) room ≡ true → counts (accepted xs) room ≡ accepted (length xs))
 
--- A reader: zero octets are always 5.
+-- A reader: zero octets are always 5. (That its refusal is the first that applies is claimed in `ReaderRefusals.antt`.)
 abbrev pub ZeroOctets : Type 0
 ZeroOctets = ((k : Kind) → read k [] ≡ refused 5) × ((f : Family) → readEither f [] ≡ refused 5)
 
