@@ -8,10 +8,10 @@ use lib.Dec.{leb, eqb}
 use lib.ListN.{length}
 use Rattle.format.specs.Words.{pick, both, ifAny, Outcome, accepted, refused, unless}
 use Rattle.format.specs.Octets.{Octets, signedOf}
-use Rattle.format.specs.Values.{Kind, timed, Value, Form, text, compact, extended}
+use Rattle.format.specs.Values.{Kind, timed, Value, timeInRange, offsetInRange, Form, text, compact, extended}
 use Rattle.format.specs.Fields.{fit}
 use Rattle.format.specs.Text.{layout}
-use Rattle.format.specs.TextReading.{digitsFound, minusZero, readFields, readText}
+use Rattle.format.specs.TextReading.{digitsFound, minusZero, numbersInRange, readFields, readText}
 use Rattle.format.specs.CompactReading.{longest, usual, readNumber, readCompact}
 use Rattle.format.specs.Extended.{headBits, readExtended}
 use Rattle.format.specs.Promises.{numberOf}
@@ -20,8 +20,8 @@ use Rattle.format.specs.EitherOr.{kindIn, readEither}
 use Rattle.format.proofs.Cases.{never}
 use Rattle.format.proofs.Choosing.{found-fits}
 use Rattle.format.proofs.Signed.{drop-octets}
-use Rattle.claims.specs.ReaderRefusals.{numbersIn, withOffset, numberPart, textLengthFits, lengthFits, octetsFit, nothingRedundant, allInRange, valueSaid, FirstOf, ReaderFirstThatApplies, EitherFirstThatApplies, NeverRefusedWith}
-use Rattle.claims.proofs.Questions.{text-found, text-lengths, compact-lengths, extended-lengths, fewest-or-padded, carried-at, numbers-fit, minus-zero}
+use Rattle.claims.specs.ReaderRefusals.{numbersIn, withOffset, numberPart, textLengthFits, lengthFits, octetsFit, nothingRedundant, allInRange, valueSaid, ChosenForm, FirstOf, ReaderFirstThatApplies, EitherFirstThatApplies, NeverRefusedWith}
+use Rattle.claims.proofs.Questions.{text-found, text-lengths, compact-lengths, extended-lengths, fewest-or-padded, carried-at, numbers-fit, minus-zero, clock-fits}
 
 -- ---- the tests of each form are the four questions
 
@@ -40,15 +40,15 @@ reworded true false c e o f = refl
 reworded false b c e o f = refl
 
 four-text : (k : Kind) (s : List ℕ) → let d = digitsFound k (length s) in readText k d s ≡ Four k (text d) s
-unfolding readText readFields
+unfolding readText readFields numbersInRange
 four-text k s =
     let d = digitsFound k (length s) in
     let n = numbersIn k d s in
-    rw (text-lengths k (length s)) (reworded (textLengthFits k (length s)) (fit (layout k d) s 0) (not (minusZero n)) (nothingRedundant k (text d) s) _
+    rw (text-lengths k (length s), clock-fits n) (reworded (textLengthFits k (length s)) (fit (layout k d) s 0) (not (minusZero n)) (nothingRedundant k (text d) s) _
     (λ a b. minus-zero k d s (sym (found-fits k (length s) (text-found k (length s) a))) b))
 
 four-compact : (k : Kind) (s : List ℕ) → Octets s → readCompact k s ≡ Four k compact s
-unfolding readCompact readNumber usual
+unfolding readCompact readNumber usual offsetInRange
 four-compact k s o =
     let w = withOffset k (length s) in
     let x = signedOf (numberPart k s) in
@@ -56,7 +56,7 @@ four-compact k s o =
     rw (compact-lengths k (length s), carried-at k (length s), e, numbers-fit k (length s) x)
 
 four-extended : (k : Kind) (s : List ℕ) → readExtended k s ≡ Four k extended s
-unfolding readExtended
+unfolding readExtended offsetInRange timeInRange
 four-extended k s = rw (extended-lengths k)
 
 four : (k : Kind) (s : List ℕ) → Octets s → readIn k (formIn k s) s ≡ Four k (formIn k s) s
@@ -70,6 +70,14 @@ four k s o = go (leb (length s) (longest k)) (both (timed k) (eqb (firstBits s) 
 
 first-of : (k : Kind) (f : Form) (s : List ℕ) (r : Outcome Value) → r ≡ Four k f s → FirstOf k f s (answer k f r)
 first-of k f s r e = rw e (λ a. rw a, λ a b. rw (a, b), λ a b c. rw (a, b, c), λ a b c d. rw (a, b, c, d), λ a b c d. rw (a, b, c, d))
+
+pub chosen-form : ChosenForm
+unfolding formIn headBits
+chosen-form k s = (
+  λ a. rw a,
+  λ a b. rw (a, b),
+  λ a b. (digitsFound k (length s), rw (a, b), λ e. found-fits k (length s) (text-found k (length s) e)),
+)
 
 pub reader-first : ReaderFirstThatApplies
 unfolding read

@@ -15,7 +15,7 @@ use Rattle.format.specs.Values.{Kind, Date, DateTz, Time, TimeTz, Datetime, Dat
 use Rattle.format.specs.Digits.{digitsOf}
 use Rattle.format.specs.Fields.{Field, width, put, saysAt, widths, puts, fit, says}
 use Rattle.format.specs.Text.{dateRow, clockRow, offsetRow, layout, textLength}
-use Rattle.format.specs.TextReading.{digitsFound, named, minusZero}
+use Rattle.format.specs.TextReading.{digitsFound, Numbers, named, minusZero, clockInRange}
 use Rattle.format.specs.Compact.{perDay, start, greatest, paddedTo, numberOctets}
 use Rattle.format.specs.CompactReading.{longest, shortest, longestPlain, carriedIn, notBefore, counted, numberInRange}
 use Rattle.format.specs.Extended.{dayWidth}
@@ -25,7 +25,7 @@ use Rattle.format.proofs.Fields.{bound, row-again, fit-append, says-append, wid
 use Rattle.format.proofs.Choosing.{digits-back, found-fits, found-has}
 use Rattle.format.proofs.Ber.{fewest-octets}
 use Rattle.format.proofs.Tight.{tight-fewest}
-use Rattle.claims.specs.ReaderRefusals.{between, signedBetween, same, minusZeroText, numbersIn, withOffset, numberFits, textLengthFits, compactLengthFits, nothingRedundant}
+use Rattle.claims.specs.ReaderRefusals.{between, signedBetween, same, minusZeroText, numbersIn, withOffset, numberFits, clockFits, textLengthFits, compactLengthFits, nothingRedundant}
 
 -- ---- 5: the lengths of 01 are those that the forms have
 
@@ -224,3 +224,17 @@ pub minus-zero : (k : Kind) (d : ℕ) (s : List ℕ) → length s ≡ textLength
     → not (minusZero (numbersIn k d s)) ≡ nothingRedundant k (text d) s
 unfolding layout textLength
 minus-zero k d s l f = row-zero (dated k) (timed k) (zoned k) d s l f
+
+-- ---- 8: the hour
+
+hour-fits : (h : ℕ) (m s z : Bool) → both m (both s (either (leb h 23) (both (eqb h 24) z))) ≡ both (leb h 24) (both m (both s (needs (eqb h 24) z)))
+hour-fits h m s z =
+    ⊎-elim (λ (p : h < 24). rw (le-leb h 23 (omega arith), le-leb h 24 (omega arith), ne-eqb h 24 (λ e. omega arith)))
+    (λ (p : 24 ≤ h). ⊎-elim (λ (q : h ≡ 24). rw q)
+    (λ (q : h ≡ 24 → ⊥). rw (lt-leb h 23 (omega arith), lt-leb h 24 (omega (arith, q)), ne-eqb h 24 q, both-false s) (both-false m))
+    (eq-or-ne h 24))
+    (lt-or-le h 24)
+
+pub clock-fits : (n : Numbers) → clockInRange n ≡ clockFits n
+unfolding clockInRange
+clock-fits n = hour-fits (n .hour) (leb (n .minute) 59) (leb (n .second) 59) (both (eqb (n .minute) 0) (both (eqb (n .second) 0) (eqb (n .fraction) 0)))

@@ -1,8 +1,8 @@
 -- What is claimed of a reader's refusal: that it is the first that applies. (01, Refusal numbers: "readers 5, 6, 7, 8, each over the whole input
 -- before the next. Where none applies, the call is accepted.")
 --
--- The form comes first (01, How a reader chooses): `formIn k s` is `compact`, `extended`, or `text d` with the d fraction digits that the length has room
--- for. Then there are four questions about the kind k, that form f and the whole of s. Each stands by itself; the claims below give their order:
+-- The form comes first: `formIn k s` is `compact`, `extended`, or `text d` with d fraction digits (`ChosenForm` says which). Then there are four questions
+-- about the kind k, that form f and the whole of s. Each stands by itself; the claims give their order:
 --
 --   lengthFits k f s        is the length one that this form of this kind can have?    if not, 5
 --   octetsFit k f s         may each octet stand where it stands?                      if not, 6
@@ -17,8 +17,7 @@
 --   layout k d              a row of fields, `yyyy-mm-ddThh:mm:ss.ffffff+hh:mm` without what the kind lacks, with d digits behind the point, and no point for 0
 --   fit (layout k d) s 0    digits stand where the row has digits, `+` or `-` where it has the sign, its separators where they belong
 --   numbersIn k d s         the numbers in that row, by their names; 0 for a field that is not there
---   numbersInRange k n      there is such a day, in a year from 1 to 9999; the hour is up to 23, or 24 with nothing but zeros after it, minute and second up
---                           to 59; the offset's hours are up to 23, its minutes up to 59
+--   isDay (dayNamed n)      there is such a day, in a year from 1 to 9999
 --   textValue d n           the value that these numbers say
 --
 -- for compact:
@@ -28,15 +27,14 @@
 --   signedOf s              octets as a number in two's complement
 --   paddedTo k w            the fewest octets that the number is written in: behind an offset (w) 2 for days, 3 for milliseconds, 5 for T; else 1
 --   tight s                 no octet only repeats the sign: the bits of the first octet and the first of the second are not all alike (X.690 8.3.2)
---   offsetInRange x         x is from -1,439 to 1,439
 --   counted (start k) x     the days or milliseconds since 0001-01-01, where x counts from 2020-01-01; of a time x itself
 --   compactValue k n x      the value of n of them and an offset x
 --
 -- and for extended:
 --
 --   twelveBits s            the header's bits behind the first four; `offsetFrom` is their number in two's complement
---   dayField k s            the day number, in 3 octets, and 0 where the kind has no date; `lastNumber` is that of 9999-12-31
---   microsField k s         the microseconds of the day, in 5 octets; `timeInRange`: at most 86,400,000,000
+--   dayField k s            the day number, in 3 octets, and 0 where the kind has no date
+--   microsField k s         the microseconds of the day, in 5 octets
 --   extendedValue k ..      the value of these three
 use Prim.Native.Nat.{ℕ, _+_, _-_, _%_}
 use mathlib.Core.Path.{_≡_}
@@ -47,15 +45,15 @@ use lib.Dec.{leb, ltb, eqb}
 use lib.ListN.{length, take, drop}
 use Rattle.format.specs.Words.{pick, both, either, needs, ifAny, Outcome, accepted, refused}
 use Rattle.format.specs.Octets.{Octets, unsignedAt, signedOf, tight}
-use Rattle.format.specs.Calendar.{lastNumber}
-use Rattle.format.specs.Values.{Kind, Date, DateTz, Time, TimeTz, Datetime, DatetimeTz, dated, timed, zoned, Value, timeInRange, offsetInRange, Form, text, compact, extended, Answer}
+use Rattle.format.specs.Calendar.{isDay}
+use Rattle.format.specs.Values.{Kind, Date, DateTz, Time, TimeTz, Datetime, DatetimeTz, dated, timed, zoned, Value, Form, text, compact, extended, Answer}
 use Rattle.format.specs.Fields.{fit, says}
-use Rattle.format.specs.Text.{layout}
-use Rattle.format.specs.TextReading.{Numbers, named, numbersInRange, textValue}
+use Rattle.format.specs.Text.{layout, textLength}
+use Rattle.format.specs.TextReading.{Numbers, named, dayNamed, textValue}
 use Rattle.format.specs.Compact.{start, paddedTo}
-use Rattle.format.specs.CompactReading.{counted, compactValue}
+use Rattle.format.specs.CompactReading.{longest, counted, compactValue}
 use Rattle.format.specs.Extended.{dayWidth, offsetFrom, extendedValue}
-use Rattle.format.specs.Reading.{formIn, read}
+use Rattle.format.specs.Reading.{firstBits, formIn, read}
 use Rattle.format.specs.EitherOr.{Family, kindIn, readEither}
 use Rattle.claims.specs.Claims.{said}
 
@@ -156,13 +154,26 @@ numberFits TimeTz w x = signedBetween 0 86400000 x
 numberFits Datetime w x = signedBetween 63713433600000 140737488355327 x
 numberFits DatetimeTz w x = signedBetween 63713433600000 (pick w 251824463999999 140737488355327) x
 
--- "a field read is out of range"
+-- "hour above 24 or 24 with anything after it, minute or second above 59"
+abbrev pub clockFits : Numbers → Bool
+clockFits n =
+    both (leb (n .hour) 24) (both (leb (n .minute) 59) (both (leb (n .second) 59)
+    (needs (eqb (n .hour) 24) (both (eqb (n .minute) 0) (both (eqb (n .second) 0) (eqb (n .fraction) 0))))))
+
+-- "binary offset beyond 1,439 minutes"
+abbrev pub offsetFits : ℤ → Bool
+offsetFits x = leb (natAbs x) 1439
+
+-- "a field read is out of range: no such day, year 0000, .. text offset hour above 23 or minute above 59; .. any other compact or extended number outside
+-- the value's range"
 abbrev pub allInRange : Kind → Form → List ℕ → Bool
-allInRange k (text d) s = numbersInRange k (numbersIn k d s)
+allInRange k (text d) s =
+    let n = numbersIn k d s in
+    both (needs (dated k) (isDay (dayNamed n))) (both (clockFits n) (both (leb (n .hours) 23) (leb (n .minutes) 59)))
 allInRange k compact s =
-    both (offsetInRange (signedOf (offsetPart k s))) (numberFits k (withOffset k (length s)) (signedOf (numberPart k s)))
+    both (offsetFits (signedOf (offsetPart k s))) (numberFits k (withOffset k (length s)) (signedOf (numberPart k s)))
 allInRange k extended s =
-    both (offsetInRange (offsetFrom (twelveBits s))) (both (leb (dayField k s) lastNumber) (timeInRange (microsField k s)))
+    both (offsetFits (offsetFrom (twelveBits s))) (both (leb (dayField k s) 3652058) (leb (microsField k s) 86400000000))
 
 abbrev pub valueSaid : Kind → Form → List ℕ → Value
 valueSaid k (text d) s = textValue d (numbersIn k d s)
@@ -170,6 +181,17 @@ valueSaid k compact s = compactValue k (counted (start k) (signedOf (numberPart 
 valueSaid k extended s = extendedValue k (twelveBits s) (dayField k s) (microsField k s)
 
 -- ---- the claims
+
+-- How a reader chooses: up to so many octets (`longest`, the column Compact) compact; longer, with the first four bits 1001 of a zoned kind or 1000 of a plain one,
+-- extended, which Date and DateTz have not; others text, with as many digits as its length says where it is a text's.
+abbrev pub ChosenForm : Type 0
+ChosenForm =
+    (k : Kind) (s : List ℕ)
+    → (let bits = both (timed k) (eqb (firstBits s) (pick (zoned k) 9 8)) in
+    (leb (length s) (longest k) ≡ true → formIn k s ≡ compact)
+    × (leb (length s) (longest k) ≡ false → bits ≡ true → formIn k s ≡ extended)
+    × (leb (length s) (longest k) ≡ false → bits ≡ false
+    → (d : ℕ) × (formIn k s ≡ text d) × (textLengthFits k (length s) ≡ true → textLength k d ≡ length s)))
 
 -- o is the first refusal that applies to s as a k in the form f; or, where none does, the value that stands there, under that kind and form
 abbrev pub FirstOf : Kind → Form → List ℕ → Outcome Answer → Type 0
