@@ -182,8 +182,8 @@ valueSaid k extended s = extendedValue k (twelveBits s) (dayField k s) (microsFi
 
 -- ---- the claims
 
--- How a reader chooses: up to so many octets (`longest`, the column Compact) compact; longer, with the first four bits 1001 of a zoned kind or 1000 of a plain one,
--- extended, which Date and DateTz have not; others text, with as many digits as its length says where it is a text's.
+-- How a reader chooses: up to so many octets (`longest k`, the column Compact) compact; longer, with the first four bits 1001 (9) of a zoned kind or 1000 (8) of
+-- a plain one, extended, which Date and DateTz have not; others text. Where the length is a text's, it is that of d digits (`textLength k d`, see `TheLengths`).
 abbrev pub ChosenForm : Type 0
 ChosenForm =
     (k : Kind) (s : List ℕ)
