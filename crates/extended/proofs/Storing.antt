@@ -15,7 +15,8 @@ use Rattle.format.specs.Extended.{dayWidth, extendedImage}
 use Rattle.format.specs.Writing.{imageIn, hasForm, encodeIn}
 use Rattle.format.proofs.Cases.{both-false}
 use Rattle.format.proofs.Extended.{extended-length}
-use Rattle.octets.proofs.LowFirst.{four, unsigned-over}
+use Rattle.octets.proofs.LowFirst.{four-quotients}
+use Rattle.octets.proofs.Turning.{unsigned-over}
 use Rattle.values.specs.Promise.{Left}
 use Rattle.values.proofs.Writes.{refuses, short, stored}
 use Rattle.extended.proofs.Image.{width-dated, width-undated}
@@ -74,7 +75,7 @@ module _ (k : Kind) (v : Value) (n : ℕ) (w : 7 + dayWidth k ≡ n)
 
 five-split : (x : ℕ) → ((x / 4294967296 % 256) ∷ unsignedOctets 4 x) ≡ unsignedOctets 5 x
 unfolding unsignedOctets
-five-split x = rw (four x)
+five-split x = rw (four-quotients x)
 
 pub five-octets : (m : ℕ) → ((m / 4294967296 % 256) ∷ unsignedOctets 4 (m % 4294967296)) ≡ unsignedOctets 5 m
 five-octets m =
@@ -86,7 +87,7 @@ eight-split : (x : ℕ) → unsignedOctets 3 (x / 1099511627776) ++ unsignedOcte
 unfolding unsignedOctets
 eight-split x =
     let e : x / 4294967296 / 256 ≡ x / 1099511627776 = omega arith in
-    rw (four x, e)
+    rw (four-quotients x, e)
 
 pub eight-octets : (d m : ℕ) → m < 1099511627776 → unsignedOctets 8 (d * 1099511627776 + m) ≡ unsignedOctets 3 d ++ unsignedOctets 5 m
 eight-octets d m h =

@@ -1,8 +1,8 @@
 -- One octet stored behind those of the number without it; and the first four stored, then the last two over them. Assumes nothing.
-use Prim.Native.Nat.{ℕ, zero, suc, _+_, _-_, _*_, _^_, _<_, _≤_}
+use Prim.Native.Nat.{ℕ, zero, suc, _+_, _-_, _^_, _<_, _≤_}
 use native.Mathlib.Nat.{zero-add, le-of-suc-le-suc, not-suc-le-zero}
 use native.Mathlib.Omega.{arith}
-use mathlib.Core.Path.{_≡_, refl, sym, _∙_, ap}
+use mathlib.Core.Path.{_≡_, refl, sym, _∙_}
 use mathlib.Core.List.{List, [], _∷_, _++_}
 use lib.IntN.{ℤ}
 use lib.Pow.{pow-add}
@@ -29,11 +29,11 @@ set-before : (l : List ℕ) (i j : ℕ) (ys : List ℕ) (z : ℕ) → i < j → 
 set-before l i j [] z h = refl
 set-before l i j (y ∷ ys) z h = set-before (set l j y) i (suc j) ys z (omega arith) ∙ rw (set-comm l j i y z (λ e. omega arith))
 
-over : (l : List ℕ) (i : ℕ) (ys zs : List ℕ) → length ys ≤ length zs → sets (sets l i ys) i zs ≡ sets l i zs
-over l i [] zs h = refl
-over l i (y ∷ ys) [] h = absurd (not-suc-le-zero h)
-over l i (y ∷ ys) (z ∷ zs) h =
-    rw (set-before (set l i y) i (suc i) ys z (omega arith), set-set l i y z) (over (set l i z) (suc i) ys zs (le-of-suc-le-suc h))
+pub sets-over : (l : List ℕ) (i : ℕ) (ys zs : List ℕ) → length ys ≤ length zs → sets (sets l i ys) i zs ≡ sets l i zs
+sets-over l i [] zs h = refl
+sets-over l i (y ∷ ys) [] h = absurd (not-suc-le-zero h)
+sets-over l i (y ∷ ys) (z ∷ zs) h =
+    rw (set-before (set l i y) i (suc i) ys z (omega arith), set-set l i y z) (sets-over (set l i z) (suc i) ys zs (le-of-suc-le-suc h))
 
 -- the first m of m + n octets are those of the number without its last n
 split : (m n : ℕ) (x : ℤ) → signedOctets (m + n) x ≡ signedOctets m (divF x (256 ^ n)) ++ signedOctets n x
@@ -61,4 +61,4 @@ module _ (l : List ℕ) (at m k : ℕ) (x : ℤ) (p : m + k ≡ 4) (q : k ≤ 2)
       let s : length ys ≤ length (signedOctets 2 x) = omega (arith, octets-length k (divF x (256 ^ (2 - k))), octets-length 2 x) in
       let a = rw c at (sets-append l at xs ys) in
       let b = rw c at (sets-append l at xs (signedOctets 2 x)) in
-      rw (head, split m 2 x, a, b) (over (sets l at xs) (at + m) ys (signedOctets 2 x) s)
+      rw (head, split m 2 x, a, b) (sets-over (sets l at xs) (at + m) ys (signedOctets 2 x) s)

@@ -5,5 +5,7 @@ pub mod Taking
 pub mod Wrapping
 pub mod Signs
 pub mod LowFirst
+pub mod Turning
+pub mod Joining
 pub mod Behind
 pub mod Word

@@ -1,6 +1,8 @@
 // Numbers in octets, big-endian: unsigned and two's complement, put into a lent buffer and taken from a slice; the fewest octets of a BER integer.
+// And words of octets, least significant first.
 // For the crates of this library: callers prove what is required.
 mod fixed;
+mod low;
 mod words;
 
 ghost use mathlib.Core.Path.{_≡_};
@@ -22,6 +24,13 @@ pub use fixed::signed_4;
 pub use fixed::signed_5;
 pub use fixed::signed_6;
 pub use fixed::signed_7;
+pub use low::put_low2;
+pub use low::put_low4;
+pub use low::put_low8;
+pub use low::take_low2;
+pub use low::take_low4;
+pub use low::take_low5;
+pub use low::take_low8;
 pub use words::put1;
 pub use words::put2;
 pub use words::put4;

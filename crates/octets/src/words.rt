@@ -1,11 +1,12 @@
-// Words of 2, 4 and 8 octets, big-endian, each one load or one store: the octets are put together, or taken apart, least significant first,
-// which the compiler makes one access in every place, and their order is turned by arithmetic, which it makes one instruction.
+// Words of 2, 4 and 8 octets, big-endian, each one load or one store: those of `low`, whose order is turned by arithmetic, which the compiler
+// makes one instruction.
 ghost use mathlib.Core.Path.{_≡_};
-ghost use Prim.Native.Nat.{_+_, _*_, _≤_};
-ghost use lib.ListN.{length, getD, set};
+ghost use Prim.Native.Nat.{_+_, _≤_};
+ghost use lib.ListN.{length, set};
 ghost use lib.Seq.{sets};
 ghost use Rattle.format.specs.Octets.{unsignedOctets, unsignedAt};
-ghost use Rattle.octets.specs.Words.{lowOctets, turnedTwo, turnedFour};
+ghost use Rattle.octets.specs.Words.{turnedTwo, turnedFour};
+use crate::low;
 
 // ---- the order of octets turned
 
@@ -19,42 +20,6 @@ fn turned4(x: u32) -> u32
     ensures { λ r. ⌜ r ≡ turnedFour x ⌝ }
 {
     x % 256 * 16777216 + x / 256 % 256 * 65536 + x / 65536 % 256 * 256 + x / 16777216
-}
-
-// ---- least significant first
-
-fn put_low2(buf: &mut [u8], at: usize, x: u16)
-    requires { ⌜ at + 2 ≤ length (now buf) ⌝ }
-    ensures { λ _. ⌜ now (buf .exit) ≡ sets (now (buf .entry)) at (lowOctets 2 x) ⌝ }
-{
-    buf[at] = (x % 256) as u8;
-    buf[at + 1] = (x / 256) as u8;
-}
-
-fn put_low4(buf: &mut [u8], at: usize, x: u32)
-    requires { ⌜ at + 4 ≤ length (now buf) ⌝ }
-    ensures { λ _. ⌜ now (buf .exit) ≡ sets (now (buf .entry)) at (lowOctets 4 x) ⌝ }
-{
-    put_low2(buf, at, (x % 65536) as u16);
-    put_low2(buf, at + 2, (x / 65536) as u16);
-}
-
-fn put_low8(buf: &mut [u8], at: usize, x: u64)
-    requires { ⌜ at + 8 ≤ length (now buf) ⌝ }
-    ensures { λ _. ⌜ now (buf .exit) ≡ sets (now (buf .entry)) at (lowOctets 8 x) ⌝ }
-{
-    put_low4(buf, at, (x % 4294967296) as u32);
-    put_low4(buf, at + 4, (x / 4294967296) as u32);
-}
-
-fn take_low4(s: &[u8], at: usize) -> u32
-    requires { ⌜ at + 4 ≤ length (now s) ⌝ }
-    ensures { λ r. ⌜ r ≡ getD (now (s .entry)) at 0 + getD (now (s .entry)) (at + 1) 0 * 256 + getD (now (s .entry)) (at + 2) 0 * 65536 + getD (now (s .entry)) (at + 3) 0 * 16777216 ⌝ }
-{
-    (s[at] as u32)
-        + (s[at + 1] as u32) * 256
-        + (s[at + 2] as u32) * 65536
-        + (s[at + 3] as u32) * 16777216
 }
 
 // ---- big-endian
@@ -71,14 +36,14 @@ pub fn put2(buf: &mut [u8], at: usize, x: u16)
     requires { ⌜ at + 2 ≤ length (now buf) ⌝ }
     ensures { λ _. ⌜ now (buf .exit) ≡ sets (now (buf .entry)) at (unsignedOctets 2 x) ⌝ }
 {
-    put_low2(buf, at, turned2(x));
+    low::put_low2(buf, at, turned2(x) as u64);
 }
 
 pub fn put4(buf: &mut [u8], at: usize, x: u32)
     requires { ⌜ at + 4 ≤ length (now buf) ⌝ }
     ensures { λ _. ⌜ now (buf .exit) ≡ sets (now (buf .entry)) at (unsignedOctets 4 x) ⌝ }
 {
-    put_low4(buf, at, turned4(x));
+    low::put_low4(buf, at, turned4(x) as u64);
 }
 
 // The first four octets are the low half of what is stored.
@@ -88,14 +53,14 @@ pub fn put8(buf: &mut [u8], at: usize, x: u64)
 {
     let first = turned4((x / 4294967296) as u32);
     let last = turned4((x % 4294967296) as u32);
-    put_low8(buf, at, (last as u64) * 4294967296 + (first as u64));
+    low::put_low8(buf, at, (last as u64) * 4294967296 + (first as u64));
 }
 
 pub fn take4(s: &[u8], at: usize) -> u32
     requires { ⌜ at + 4 ≤ length (now s) ⌝ }
     ensures { λ r. ⌜ r ≡ unsignedAt (now (s .entry)) at 4 ⌝ }
 {
-    turned4(take_low4(s, at))
+    turned4(low::take_low4(s, at) as u32)
 }
 
 pub fn take8(s: &[u8], at: usize) -> u64

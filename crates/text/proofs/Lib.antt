@@ -1,7 +1,6 @@
 pub mod Rows
 pub mod DigitsFound
 pub mod Opposites
-pub mod Joining
 pub mod Octetwise
 pub mod PairNumbers
 pub mod PairLaws

@@ -15,7 +15,8 @@ use Rattle.format.specs.Words.{both}
 use Rattle.format.specs.Digits.{isDigit}
 use Rattle.format.proofs.Cases.{both-true, never}
 use Rattle.format.proofs.Decimal.{digit, is-digit}
-use Rattle.text.specs.Loading.{word, clean}
+use Rattle.octets.specs.Words.{word}
+use Rattle.text.specs.Pairs.{clean}
 
 -- what an octet should be
 pub data Want : Type 0 where

@@ -14,8 +14,8 @@ use Rattle.format.specs.Digits.{isDigit, areDigits, numberAt}
 use Rattle.format.specs.Fields.{digits, after, width, fitsAt, saysAt, fit, says}
 use Rattle.format.specs.Text.{fractionUnit}
 use Rattle.format.specs.Octets.{Octets}
-use Rattle.text.specs.Loading.{two, four, five, eight, Loads, clean}
-use Rattle.text.specs.Pairs.{rowAt, partAt}
+use Rattle.octets.specs.Words.{two, four, five, eight, Loads}
+use Rattle.text.specs.Pairs.{rowAt, partAt, clean}
 use Rattle.text.proofs.Octetwise.{Want, decimal, mark, zeroOf, sixOf, maskOf, mostOf, each, areWanted, Sized, wanted-clean, wanted-word, wanted-values, unwanted-unclean}
 use Rattle.text.proofs.PairNumbers.{joined, pair-numbers, two-numbers, three-numbers, part-numbers}
 

@@ -4,7 +4,7 @@ use mathlib.Core.List.{List, [], _∷_}
 use Prim.Native.Nat.{ℕ, _+_, _*_, _/_, _%_, _<_, _≤_}
 use native.Mathlib.Omega.{arith}
 use lib.Pow.{high, low}
-use Rattle.text.specs.Loading.{word}
+use Rattle.octets.specs.Words.{word}
 
 -- ten times a word and its next octet
 abbrev pub joined : ℕ → ℕ

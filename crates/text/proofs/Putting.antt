@@ -22,8 +22,10 @@ use Rattle.format.proofs.Dates.{parts, short-month}
 use Rattle.format.proofs.Clock.{seven}
 use Rattle.format.proofs.Fields.{length-digits, put-length, puts-append}
 use Rattle.format.proofs.Storing.{sets-then}
-use Rattle.text.specs.Putting.{dateOctets, clockOctets, offsetOctets, yearMonthDay, hourMinuteSecond, fractionField, signHourMinute, lowFirst}
-use Rattle.text.proofs.Shifting.{over, length-low, take-low}
+use Rattle.octets.specs.Words.{lowOctets}
+use Rattle.octets.proofs.LowFirst.{length-low, take-low}
+use Rattle.text.specs.Putting.{dateOctets, clockOctets, offsetOctets, yearMonthDay, hourMinuteSecond, fractionField, signHourMinute}
+use Rattle.text.proofs.Shifting.{over}
 
 -- ---- the image by its parts
 
@@ -149,14 +151,14 @@ fraction-front f =
     (refl {a = []}) (rw e₁) (rw e₂) (rw e₃) (rw e₄) (refl {a = 46 ∷ digitsOf 5 (f / 10)}) (rw e₆)
 
 -- the clock, and then from so far into it on that the store ends with the fraction
-pub time-stored : (l : List ℕ) (at d x clock point n : ℕ) → d ≤ 6 → n ≡ width (fractionField d) → n ≤ 7 → lowFirst 8 clock ≡ hourMinuteSecond (x / 1000000)
-    → lowFirst 7 point ≡ 46 ∷ digitsOf 6 (x % 1000000)
-    → sets (sets l at (lowFirst 8 clock)) (at + n) (drop n (lowFirst 8 clock) ++ lowFirst n point) ≡ sets l at (clockOctets true false d x)
+pub time-stored : (l : List ℕ) (at d x clock point n : ℕ) → d ≤ 6 → n ≡ width (fractionField d) → n ≤ 7 → lowOctets 8 clock ≡ hourMinuteSecond (x / 1000000)
+    → lowOctets 7 point ≡ 46 ∷ digitsOf 6 (x % 1000000)
+    → sets (sets l at (lowOctets 8 clock)) (at + n) (drop n (lowOctets 8 clock) ++ lowOctets n point) ≡ sets l at (clockOctets true false d x)
 time-stored l at d x clock point n h e k c p =
     let a : n + (7 - n) ≡ 7 = omega arith in
-    let f : lowFirst n point ≡ fractionOctets d (x % 1000000) = sym (take-low n (7 - n) point) ∙ rw (a, p, e) (fraction-front (x % 1000000) d h) in
-    let g : lowFirst 8 clock ++ lowFirst n point ≡ clockOctets true false d x = rw (c, f) (clock-parts d x) in
-    over l at n (lowFirst 8 clock) (lowFirst n point) (omega (arith, length-low 8 clock)) ∙ ap (sets l at) g
+    let f : lowOctets n point ≡ fractionOctets d (x % 1000000) = sym (take-low n (7 - n) point) ∙ rw (a, p, e) (fraction-front (x % 1000000) d h) in
+    let g : lowOctets 8 clock ++ lowOctets n point ≡ clockOctets true false d x = rw (c, f) (clock-parts d x) in
+    over l at n (lowOctets 8 clock) (lowOctets n point) (omega (arith, length-low 8 clock)) ∙ ap (sets l at) g
 
 -- `T`, and the time behind it
 pub joint-stored : (l : List ℕ) (at d x : ℕ) → sets (set l at 84) (at + 1) (clockOctets true false d x) ≡ sets l at (clockOctets true true d x)

@@ -1,81 +1,38 @@
 -- Words of a text: a sum of digits and of the word of a text of zeros, octet by octet, is the text. Each word is first grouped from its last
 -- octet to its first (`omega` does that), and then taken apart from the first, two digits or one separator at a time. Assumes nothing.
-use mathlib.Core.Path.{_≡_, refl, _∙_}
-use mathlib.Core.List.{List, [], _∷_, _++_}
+use mathlib.Core.Path.{_≡_, _∙_}
+use mathlib.Core.List.{_∷_, _++_}
 use Prim.Native.Nat.{ℕ, suc, _+_, _*_, _/_, _%_, _<_, _≤_}
-use native.Mathlib.Numerals.{add-one}
 use native.Mathlib.Omega.{arith}
 use lib.IntN.{ℤ}
 use lib.Signed.{nonNeg}
-use lib.ListN.{set}
-use lib.Seq.{sets}
 use mathlib.Core.Bool.{Bool, true, false}
 use Rattle.format.specs.Words.{pick}
 use Rattle.format.specs.Digits.{digitsOf}
-use Rattle.text.specs.Putting.{yearMonthDay, hourMinuteSecond, PointDigits, signMark, signHourMinute, lowFirst, duo}
-
--- ---- a word stored by its halves
-
-pub low-two : (l : List ℕ) (i w : ℕ) → set (set l i (w % 256)) (i + 1) (w / 256 % 256) ≡ sets l i (lowFirst 2 w)
-unfolding lowFirst
-low-two l i w = rw (add-one i)
-
-pub low-four : (l : List ℕ) (i w : ℕ) → sets (sets l i (lowFirst 2 w)) (i + 2) (lowFirst 2 (w / 65536)) ≡ sets l i (lowFirst 4 w)
-unfolding lowFirst
-low-four l i w =
-    let e : i + 2 ≡ suc (suc i) = omega arith in
-    let q : w / 256 / 256 ≡ w / 65536 = omega arith in
-    rw (e, q)
-
-pub low-six : (l : List ℕ) (i w : ℕ) → sets (sets l i (lowFirst 4 w)) (i + 4) (lowFirst 2 (w / 4294967296)) ≡ sets l i (lowFirst 6 w)
-unfolding lowFirst
-low-six l i w =
-    let e : i + 4 ≡ suc (suc (suc (suc i))) = omega arith in
-    let q : w / 256 / 256 ≡ w / 65536 = omega arith in
-    let r : w / 65536 / 256 / 256 ≡ w / 4294967296 = omega arith in
-    let s : w / 4294967296 ≡ w / 256 / 256 / 256 / 256 = rw (q, r) in
-    rw (e, s)
-
-pub low-eight : (l : List ℕ) (i w : ℕ) → sets (sets l i (lowFirst 4 w)) (i + 4) (lowFirst 4 (w / 4294967296)) ≡ sets l i (lowFirst 8 w)
-unfolding lowFirst
-low-eight l i w =
-    let e : i + 4 ≡ suc (suc (suc (suc i))) = omega arith in
-    let q : w / 256 / 256 ≡ w / 65536 = omega arith in
-    let r : w / 65536 / 256 / 256 ≡ w / 4294967296 = omega arith in
-    let s : w / 4294967296 ≡ w / 256 / 256 / 256 / 256 = rw (q, r) in
-    rw (e, s)
+use Rattle.octets.specs.Words.{lowOctets}
+use Rattle.octets.proofs.LowFirst.{low-none, low-first}
+use Rattle.text.specs.Putting.{yearMonthDay, hourMinuteSecond, PointDigits, signMark, signHourMinute, duo}
 
 -- ---- a word taken apart from its first octet
 
-octet : (n x w : ℕ) → x < 256 → lowFirst (suc n) (x + 256 * w) ≡ x ∷ lowFirst n w
-unfolding lowFirst
-octet n x w h =
-    let a : (x + 256 * w) % 256 ≡ x = omega arith in
-    let b : (x + 256 * w) / 256 ≡ w = omega arith in
-    rw (a, b)
-
-pair : (n v w : ℕ) → v < 100 → lowFirst (suc (suc n)) (duo v + 12336 + 65536 * w) ≡ digitsOf 2 v ++ lowFirst n w
+pair : (n v w : ℕ) → v < 100 → lowOctets (suc (suc n)) (duo v + 12336 + 65536 * w) ≡ digitsOf 2 v ++ lowOctets n w
 unfolding duo digitsOf
 pair n v w h =
     let e : duo v + 12336 + 65536 * w ≡ 48 + v / 10 % 10 + 256 * (48 + v % 10 + 256 * w) = omega arith in
-    rw (e, octet (suc n) (48 + v / 10 % 10) (48 + v % 10 + 256 * w) (omega arith), octet n (48 + v % 10) w (omega arith))
-
-end : lowFirst 0 0 ≡ []
-unfolding lowFirst
-end = refl
+    rw (e, low-first (suc n) (48 + v / 10 % 10) (48 + v % 10 + 256 * w) (omega arith), low-first n (48 + v % 10) w (omega arith))
 
 -- ---- the words
 
-pub two-word : (v : ℕ) → v < 100 → lowFirst 2 (duo v + 12336) ≡ digitsOf 2 v
+pub two-word : (v : ℕ) → v < 100 → lowOctets 2 (duo v + 12336) ≡ digitsOf 2 v
 unfolding digitsOf
 two-word v h =
     let e : duo v + 12336 ≡ duo v + 12336 + 65536 * 0 = omega arith in
-    rw (e, pair 0 v 0 h, end)
+    rw (e, pair 0 v 0 h, low-none 0)
 
 -- three times two digits, with a separator between; z is the word of such a text of zeros
 three-word : (c z x y v : ℕ) → c < 256 → x < 100 → y < 100 → v < 100
     → z ≡ 12336 + c * 65536 + 12336 * 16777216 + c * 1099511627776 + 12336 * 281474976710656
-    → lowFirst 8 (duo x + duo y * 16777216 + duo v * 281474976710656 + z) ≡ digitsOf 2 x ++ (c ∷ (digitsOf 2 y ++ (c ∷ digitsOf 2 v)))
+    → lowOctets 8 (duo x + duo y * 16777216 + duo v * 281474976710656 + z) ≡ digitsOf 2 x ++ (c ∷ (digitsOf 2 y ++ (c ∷ digitsOf 2 v)))
 three-word c z x y v h hx hy hv k =
     let w₃ = duo v + 12336 in
     let w₂ = duo y + 12336 + 65536 * (c + 256 * w₃) in
@@ -84,19 +41,19 @@ three-word c z x y v h hx hy hv k =
     rw (
       e,
       pair 6 x w₁ hx,
-      octet 5 c w₂ h,
+      low-first 5 c w₂ h,
       pair 3 y (c + 256 * w₃) hy,
-      octet 2 c w₃ h,
+      low-first 2 c w₃ h,
       two-word v hv,
     )
 
 pub date-word : (y m d : ℕ) → (y < 100) × (m < 100) × (d < 100)
-    → lowFirst 8 (duo y + duo m * 16777216 + duo d * 281474976710656 + 0x30302d30302d3030) ≡ yearMonthDay y m d
+    → lowOctets 8 (duo y + duo m * 16777216 + duo d * 281474976710656 + 0x30302d30302d3030) ≡ yearMonthDay y m d
 unfolding yearMonthDay
 date-word y m d h = three-word 45 0x30302d30302d3030 y m d (omega arith) (h .0) (h .1) (h .2) (omega arith)
 
 pub clock-word : (s h m v : ℕ) → h ≡ s / 3600 → m ≡ s / 60 % 60 → v ≡ s % 60 → s ≤ 86400
-    → lowFirst 8 (duo h + duo m * 16777216 + duo v * 281474976710656 + 0x30303a30303a3030) ≡ hourMinuteSecond s
+    → lowOctets 8 (duo h + duo m * 16777216 + duo v * 281474976710656 + 0x30303a30303a3030) ≡ hourMinuteSecond s
 unfolding hourMinuteSecond
 clock-word s h m v e f g k =
     three-word 58 0x30303a30303a3030 h m v (omega arith) (omega arith) (omega arith) (omega arith) (omega arith) ∙ rw (e, f, g)
@@ -124,7 +81,7 @@ point-word f x y v p q r h =
       front = omega arith;
       octets = rw (
         e,
-        octet 6 46 w₁ (omega arith),
+        low-first 6 46 w₁ (omega arith),
         pair 4 x w₂ (omega arith),
         pair 2 y w₃ (omega arith),
         two-word v (omega arith),
@@ -140,7 +97,7 @@ pub mark-small : (m : ℤ) → signMark m ≤ 45
 mark-small m = mark (nonNeg m)
 
 pub offset-word : (m : ℤ) (a h v : ℕ) → h ≡ a / 60 → v ≡ a % 60 → a ≤ 1439
-    → lowFirst 6 (duo h * 256 + duo v * 4294967296 + 0x30303a303000 + signMark m) ≡ signHourMinute m a
+    → lowOctets 6 (duo h * 256 + duo v * 4294967296 + 0x30303a303000 + signMark m) ≡ signHourMinute m a
 unfolding signHourMinute
 offset-word m a h v p q k =
     let w₃ = duo v + 12336 in
@@ -149,9 +106,9 @@ offset-word m a h v p q k =
     let e : duo h * 256 + duo v * 4294967296 + 0x30303a303000 + signMark m ≡ signMark m + 256 * w₁ = omega arith in
     rw (
       e,
-      octet 5 (signMark m) w₁ (omega (arith, mark-small m)),
+      low-first 5 (signMark m) w₁ (omega (arith, mark-small m)),
       pair 3 h w₂ (omega arith),
-      octet 2 58 w₃ (omega arith),
+      low-first 2 58 w₃ (omega arith),
       two-word v (omega arith),
       p,
       q,

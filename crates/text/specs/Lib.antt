@@ -1,4 +1,3 @@
-pub mod Loading
 pub mod Pairs
 pub mod Parts
 pub mod Cursors

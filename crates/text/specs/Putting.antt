@@ -9,15 +9,14 @@
 --   PointDigits f w      the word w is an octet 0, a point and all six digits of f
 --   signMark m           `+` or `-`, by the sign of m
 --   signHourMinute m a   the sign of m, then the a minutes as `hh:mm`
---   lowFirst n w         the last n octets of w, the low one first: a word as it is stored
 --   duo v                the two digits of v as a word: the tens in the low octet, and 48 not yet added to either
 --   Duo v w              w is that word, and small
 --   Sum e w              w is the sum e of such words at their places, and so small that the word of a text of zeros can be added
 --
 -- The first three are `format`'s rows, field by field; together they are a text's image (`proofs/Putting.antt`).
-use Prim.Native.Nat.{ℕ, zero, suc, _+_, _*_, _/_, _%_, _≤_}
+use Prim.Native.Nat.{ℕ, _+_, _*_, _/_, _%_, _≤_}
 use mathlib.Core.Path.{_≡_}
-use mathlib.Core.Bool.{Bool, true, false, not}
+use mathlib.Core.Bool.{Bool, not}
 use mathlib.Core.List.{List, [], _∷_, _++_}
 use lib.IntN.{ℤ, natAbs}
 use lib.Signed.{nonNeg}
@@ -27,6 +26,7 @@ use Rattle.format.specs.Calendar.{Day}
 use Rattle.format.specs.Digits.{digitsOf}
 use Rattle.format.specs.Fields.{Field, after, when, puts}
 use Rattle.format.specs.Text.{dateRow, clockRow, offsetRow, fractionUnit}
+use Rattle.octets.specs.Words.{lowOctets}
 
 -- ---- the parts of a text
 
@@ -62,10 +62,6 @@ signHourMinute m a = signMark m ∷ (digitsOf 2 (a / 60) ++ (58 ∷ digitsOf 2 (
 
 -- ---- words
 
-unfoldable pub lowFirst : ℕ → ℕ → List ℕ
-lowFirst zero w = []
-lowFirst (suc n) w = w % 256 ∷ lowFirst n (w / 256)
-
 unfoldable pub duo : ℕ → ℕ
 duo v = v % 10 * 256 + v / 10
 
@@ -79,4 +75,4 @@ pub record Sum (e w : ℕ) : Type 0 where
 
 pub record PointDigits (f w : ℕ) : Type 0 where
   pub front : w % 256 ≡ 0
-  pub octets : lowFirst 7 (w / 256) ≡ 46 ∷ digitsOf 6 f
+  pub octets : lowOctets 7 (w / 256) ≡ 46 ∷ digitsOf 6 f

@@ -3,7 +3,6 @@
 mod cursor;
 mod fraction;
 mod lengths;
-mod loading;
 mod pairs;
 mod parts;
 mod reading;

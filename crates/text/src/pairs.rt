@@ -5,8 +5,8 @@ ghost use mathlib.Core.List.{[], _∷_};
 ghost use Prim.Native.Nat.{_+_, _≤_};
 ghost use lib.ListN.{length};
 ghost use Rattle.format.specs.Fields.{digits, after};
-ghost use Rattle.text.specs.Pairs.{rowAt, partAt, numberRow, twoRow, threeRow};
-use crate::loading;
+ghost use Rattle.text.specs.Pairs.{rowAt, partAt, numberRow, twoRow, threeRow, clean};
+use std::num;
 
 // Refused: an octet is wrong. So too below.
 pub enum Number {
@@ -24,13 +24,23 @@ pub enum ThreePairs {
     Refused,
 }
 
+// Whether every octet of `x` is as it should be: `mask` has the bits that none may have, before `six` is added and after.
+fn is_clean(x: u64, six: u64, mask: u64) -> bool
+    ensures { λ r. ⌜ r ≡ clean x six mask ⌝ }
+{
+    if x & mask != 0 {
+        return false;
+    }
+    num::wrapping_add_u64(x, six) & mask == 0
+}
+
 // `00`
 pub fn pair(s: &[u8], at: usize) -> Number
     requires { ⌜ at + 2 ≤ length (now s) ⌝ }
     ensures { λ r. ⌜ numberRow r ≡ rowAt (digits 2 ∷ []) (now (s .entry)) at ⌝ }
 {
-    let word = loading::two_at(s, at) ^ 0x3030;
-    if !loading::is_clean(word, 0x0606, 0xf0f0) {
+    let word = octets::take_low2(s, at) ^ 0x3030;
+    if !is_clean(word, 0x0606, 0xf0f0) {
         return Number::Refused;
     }
     let pairs = word * 10 + word / 256;
@@ -42,8 +52,8 @@ pub fn two_pairs(s: &[u8], at: usize) -> TwoPairs
     requires { ⌜ at + 5 ≤ length (now s) ⌝ }
     ensures { λ r. ⌜ twoRow r ≡ rowAt (digits 2 ∷ after 58 2 ∷ []) (now (s .entry)) at ⌝ }
 {
-    let word = loading::five_at(s, at) ^ 0x30_303a_3030;
-    if !loading::is_clean(word, 0x06_0600_0606, 0xf0_f0ff_f0f0) {
+    let word = octets::take_low5(s, at) ^ 0x30_303a_3030;
+    if !is_clean(word, 0x06_0600_0606, 0xf0_f0ff_f0f0) {
         return TwoPairs::Refused;
     }
     let pairs = word * 10 + word / 256;
@@ -56,8 +66,8 @@ pub fn three_pairs(s: &[u8], at: usize, mark: u8) -> ThreePairs
     ensures { λ r. ⌜ threeRow r ≡ rowAt (digits 2 ∷ after mark 2 ∷ after mark 2 ∷ []) (now (s .entry)) at ⌝ }
 {
     let zeros = mark as u64 * 0x100_0001_0000 + 0x3030_0030_3000_3030;
-    let word = loading::eight_at(s, at) ^ zeros;
-    if !loading::is_clean(word, 0x0606_0006_0600_0606, 0xf0f0_fff0_f0ff_f0f0) {
+    let word = octets::take_low8(s, at) ^ zeros;
+    if !is_clean(word, 0x0606_0006_0600_0606, 0xf0f0_fff0_f0ff_f0f0) {
         return ThreePairs::Refused;
     }
     let pairs = word * 10 + word / 256;
@@ -72,8 +82,8 @@ pub fn thousandths(s: &[u8], at: usize) -> Number
     requires { ⌜ at + 4 ≤ length (now s) ⌝ }
     ensures { λ r. ⌜ numberRow r ≡ partAt 3 (now (s .entry)) at ⌝ }
 {
-    let word = loading::four_at(s, at) ^ 0x3030_302e;
-    if !loading::is_clean(word, 0x0606_0600, 0xf0f0_f0ff) {
+    let word = octets::take_low4(s, at) ^ 0x3030_302e;
+    if !is_clean(word, 0x0606_0600, 0xf0f0_f0ff) {
         return Number::Refused;
     }
     let pairs = word * 10 + word / 256;

@@ -7,7 +7,6 @@ ghost use Rattle.format.specs.Values.{text, Date, DateTz, Time, TimeTz, Datetim
 ghost use Rattle.format.specs.Writing.{encodeIn};
 ghost use Rattle.values.specs.Meaning.{valueFrom};
 ghost use Rattle.values.specs.Promise.{Writes};
-use crate::words;
 use crate::writing;
 use values::Refusal;
 use values::Value;
@@ -18,7 +17,7 @@ fn put_joint(buf: &mut [u8])
     requires { ⌜ 11 ≤ length (now buf) ⌝ }
     ensures { λ _. ⌜ now (buf .exit) ≡ set (now (buf .entry)) 10 84 ⌝ }
 {
-    words::put_octet(buf, 10, 84);
+    octets::put1(buf, 10, 84);
 }
 
 pub fn write_date(value: Value, buf: &mut [u8]) -> Written

@@ -9,8 +9,9 @@ ghost use lib.Seq.{sets};
 ghost use Rattle.format.specs.Calendar.{isDay};
 ghost use Rattle.format.specs.Values.{timeInRange, offsetInRange};
 ghost use Rattle.format.specs.Fields.{width};
+ghost use Rattle.octets.specs.Words.{lowOctets};
 ghost use Rattle.calendar.specs.Meaning.{dayFrom};
-ghost use Rattle.text.specs.Putting.{dateOctets, clockOctets, offsetOctets, yearMonthDay, hourMinuteSecond, fractionField, PointDigits, signHourMinute, lowFirst, signMark};
+ghost use Rattle.text.specs.Putting.{dateOctets, clockOctets, offsetOctets, yearMonthDay, hourMinuteSecond, fractionField, PointDigits, signHourMinute, signMark};
 use crate::words;
 use calendar::Date;
 use values::Offset;
@@ -29,7 +30,7 @@ fn century(year: u32) -> u32
 // The digits, added to the word of `00-00-00`.
 fn year_month_day(year: u32, month: u32, day: u32) -> u64
     requires { ⌜ (year < 100) × (month < 100) × (day < 100) ⌝ }
-    ensures { λ r. ⌜ lowFirst 8 r ≡ yearMonthDay year month day ⌝ }
+    ensures { λ r. ⌜ lowOctets 8 r ≡ yearMonthDay year month day ⌝ }
 {
     words::clock_digits(year as u64, month as u64, day as u64) + 0x30302d30302d3030
 }
@@ -43,8 +44,8 @@ pub fn put_date(buf: &mut [u8], date: Date)
     let month = date.month;
     let day = date.day;
     let century = century(year);
-    words::put_two(buf, 0, words::two_digits(century as u64) + 0x3030);
-    words::put_eight(buf, 2, year_month_day(year - 100 * century, month, day));
+    octets::put_low2(buf, 0, words::two_digits(century as u64) + 0x3030);
+    octets::put_low8(buf, 2, year_month_day(year - 100 * century, month, day));
 }
 
 // ---- the time
@@ -67,7 +68,7 @@ fn hours_in(seconds: u64) -> u64
 // The digits, added to the word of `00:00:00`.
 fn hour_minute_second(seconds: u64) -> u64
     requires { ⌜ seconds ≤ 86400 ⌝ }
-    ensures { λ r. ⌜ lowFirst 8 r ≡ hourMinuteSecond seconds ⌝ }
+    ensures { λ r. ⌜ lowOctets 8 r ≡ hourMinuteSecond seconds ⌝ }
 {
     let minutes = minutes_in(seconds);
     let hours = hours_in(seconds);
@@ -99,7 +100,7 @@ pub fn fraction_length(digits: u32) -> usize
 // The word to store so many octets further on: what is left of the first word, and then that many octets of the second, from its second on.
 fn shifted(first: u64, second: u64, octets: usize) -> u64
     requires { ⌜ (octets ≤ 7) × (second % 256 ≡ 0) ⌝ }
-    ensures { λ r. ⌜ lowFirst 8 r ≡ drop octets (lowFirst 8 first) ++ lowFirst octets (second / 256) ⌝ }
+    ensures { λ r. ⌜ lowOctets 8 r ≡ drop octets (lowOctets 8 first) ++ lowOctets octets (second / 256) ⌝ }
 {
     let bits = octets as u64 * 8;
     (first >> bits) + (second << (56 - bits))
@@ -114,8 +115,8 @@ pub fn put_time(buf: &mut [u8], at: usize, digits: u32, time: Time)
     let clock = hour_minute_second(micros / 1000000);
     let fraction = point_digits((micros % 1000000) as u32);
     let octets = fraction_length(digits);
-    words::put_eight(buf, at, clock);
-    words::put_eight(buf, at + octets, shifted(clock, fraction, octets));
+    octets::put_low8(buf, at, clock);
+    octets::put_low8(buf, at + octets, shifted(clock, fraction, octets));
 }
 
 // ---- the offset
@@ -141,7 +142,7 @@ fn size(minutes: i32) -> u32
 // The sign and the digits, added to the word of an octet 0 and `00:00`.
 fn sign_hour_minute(minutes: i32, ahead: u32) -> u64
     requires { ⌜ ahead ≤ 1439 ⌝ }
-    ensures { λ r. ⌜ lowFirst 6 r ≡ signHourMinute minutes ahead ⌝ }
+    ensures { λ r. ⌜ lowOctets 6 r ≡ signHourMinute minutes ahead ⌝ }
 {
     let hours = ahead / 60;
     words::offset_digits(hours as u64, (ahead - 60 * hours) as u64)
@@ -155,6 +156,6 @@ pub fn put_offset(buf: &mut [u8], at: usize, offset: Offset)
 {
     let minutes = offset.minutes;
     let word = sign_hour_minute(minutes, size(minutes));
-    words::put_four(buf, at, word);
-    words::put_two(buf, at + 4, word / 4294967296);
+    octets::put_low4(buf, at, word);
+    octets::put_low2(buf, at + 4, word / 4294967296);
 }

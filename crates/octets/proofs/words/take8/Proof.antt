@@ -1,5 +1,5 @@
 -- `take8` meets its contract: by halves. Assumes nothing.
-use Rattle.octets.proofs.LowFirst.{taken-eight}
+use Rattle.octets.proofs.Turning.{taken-eight}
 use borrow.Author.Needs.{needs}
 use Rattle.octets.proofs.words.take8.Statement.{statement}
 use Rattle.octets.proofs.words.take8.Tie as tie

@@ -9,18 +9,18 @@ use borrow.Author.Needs.{needs}
 use Rattle.text.proofs.pairs.pair.Statement.{statement}
 use Rattle.text.proofs.pairs.pair.Tie as tie
 
-two-at-requires : tie.Need-two-at-requires
-two-at-requires c κs = search needs
+take-low2-requires : tie.Need-take-low2-requires
+take-low2-requires c κs = search needs
 
 is-clean-requires : tie.Need-is-clean-requires
 is-clean-requires c κs = search needs
 
 returns : tie.Need-returns
-returns c = pair-refused _ _ _ (c .before .before .two-at .ensures) (sym (c .before .is-clean .ensures) ∙ not-true _ (c .if1 .taken))
+returns c = pair-refused _ _ _ (c .before .before .take-low2 .ensures) (sym (c .before .is-clean .ensures) ∙ not-true _ (c .if1 .taken))
 
 -- the word, once it was tested
-tested : (c : tie.Else1) → PairRead (now (c .before .before .before .before .args .s)) (c .before .before .before .before .args .at) (c .before .before .two-at .result) (bitXor (c .before .before .two-at .result) 12336)
-tested c = pair-read _ _ _ (c .before .before .two-at .ensures) (sym (c .before .is-clean .ensures) ∙ not-false _ (c .if1 .left))
+tested : (c : tie.Else1) → PairRead (now (c .before .before .before .before .args .s)) (c .before .before .before .before .args .at) (c .before .before .take-low2 .result) (bitXor (c .before .before .take-low2 .result) 12336)
+tested c = pair-read _ _ _ (c .before .before .take-low2 .ensures) (sym (c .before .is-clean .ensures) ∙ not-false _ (c .if1 .left))
 
 mul-pairs : tie.Need-mul-pairs
 mul-pairs c = omega (arith, tested c .small)
@@ -38,7 +38,7 @@ pub pair-spec : {M : Type 1} → statement M
 pair-spec =
     tie.close
     (tie.spec
-    two-at-requires
+    take-low2-requires
     is-clean-requires
     returns
     mul-pairs

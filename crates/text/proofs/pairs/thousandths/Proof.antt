@@ -9,18 +9,18 @@ use borrow.Author.Needs.{needs}
 use Rattle.text.proofs.pairs.thousandths.Statement.{statement}
 use Rattle.text.proofs.pairs.thousandths.Tie as tie
 
-four-at-requires : tie.Need-four-at-requires
-four-at-requires c κs = search needs
+take-low4-requires : tie.Need-take-low4-requires
+take-low4-requires c κs = search needs
 
 is-clean-requires : tie.Need-is-clean-requires
 is-clean-requires c κs = search needs
 
 returns : tie.Need-returns
-returns c = part-refused _ _ _ (c .before .before .four-at .ensures) (sym (c .before .is-clean .ensures) ∙ not-true _ (c .if1 .taken))
+returns c = part-refused _ _ _ (c .before .before .take-low4 .ensures) (sym (c .before .is-clean .ensures) ∙ not-true _ (c .if1 .taken))
 
 -- the word, once it was tested
-tested : (c : tie.Else1) → PartRead (now (c .before .before .before .before .args .s)) (c .before .before .before .before .args .at) (c .before .before .four-at .result) (bitXor (c .before .before .four-at .result) 808464430)
-tested c = part-read _ _ _ (c .before .before .four-at .ensures) (sym (c .before .is-clean .ensures) ∙ not-false _ (c .if1 .left))
+tested : (c : tie.Else1) → PartRead (now (c .before .before .before .before .args .s)) (c .before .before .before .before .args .at) (c .before .before .take-low4 .result) (bitXor (c .before .before .take-low4 .result) 808464430)
+tested c = part-read _ _ _ (c .before .before .take-low4 .ensures) (sym (c .before .is-clean .ensures) ∙ not-false _ (c .if1 .left))
 
 mul-pairs : tie.Need-mul-pairs
 mul-pairs c = omega (arith, tested c .small)
@@ -50,7 +50,7 @@ pub thousandths-spec : {M : Type 1} → statement M
 thousandths-spec =
     tie.close
     (tie.spec
-    four-at-requires
+    take-low4-requires
     is-clean-requires
     returns
     mul-pairs

@@ -15,18 +15,18 @@ mul-zeros c = search needs
 add-zeros : tie.Need-add-zeros
 add-zeros c = search needs
 
-eight-at-requires : tie.Need-eight-at-requires
-eight-at-requires c κs = search needs
+take-low8-requires : tie.Need-take-low8-requires
+take-low8-requires c κs = search needs
 
 is-clean-requires : tie.Need-is-clean-requires
 is-clean-requires c κs = search needs
 
 returns : tie.Need-returns
-returns c = three-refused _ _ _ (c .before .before .before .before .args .mark) (omega arith) (c .before .before .eight-at .ensures) (sym (c .before .is-clean .ensures) ∙ not-true _ (c .if1 .taken))
+returns c = three-refused _ _ _ (c .before .before .before .before .args .mark) (omega arith) (c .before .before .take-low8 .ensures) (sym (c .before .is-clean .ensures) ∙ not-true _ (c .if1 .taken))
 
 -- the word, once it was tested
-tested : (c : tie.Else1) → ThreeRead (now (c .before .before .before .before .args .s)) (c .before .before .before .before .args .at) (c .before .before .eight-at .result) (c .before .before .before .before .args .mark) (bitXor (c .before .before .eight-at .result) (zerosWith (c .before .before .before .before .args .mark)))
-tested c = three-read _ _ _ (c .before .before .before .before .args .mark) (omega arith) (c .before .before .eight-at .ensures) (sym (c .before .is-clean .ensures) ∙ not-false _ (c .if1 .left))
+tested : (c : tie.Else1) → ThreeRead (now (c .before .before .before .before .args .s)) (c .before .before .before .before .args .at) (c .before .before .take-low8 .result) (c .before .before .before .before .args .mark) (bitXor (c .before .before .take-low8 .result) (zerosWith (c .before .before .before .before .args .mark)))
+tested c = three-read _ _ _ (c .before .before .before .before .args .mark) (omega arith) (c .before .before .take-low8 .ensures) (sym (c .before .is-clean .ensures) ∙ not-false _ (c .if1 .left))
 
 mul-pairs : tie.Need-mul-pairs
 mul-pairs c = omega (arith, tested c .small)
@@ -52,7 +52,7 @@ three-pairs-spec =
     (tie.spec
     mul-zeros
     add-zeros
-    eight-at-requires
+    take-low8-requires
     is-clean-requires
     returns
     mul-pairs

@@ -9,18 +9,18 @@ use borrow.Author.Needs.{needs}
 use Rattle.text.proofs.pairs.two_pairs.Statement.{statement}
 use Rattle.text.proofs.pairs.two_pairs.Tie as tie
 
-five-at-requires : tie.Need-five-at-requires
-five-at-requires c κs = search needs
+take-low5-requires : tie.Need-take-low5-requires
+take-low5-requires c κs = search needs
 
 is-clean-requires : tie.Need-is-clean-requires
 is-clean-requires c κs = search needs
 
 returns : tie.Need-returns
-returns c = two-refused _ _ _ (c .before .before .five-at .ensures) (sym (c .before .is-clean .ensures) ∙ not-true _ (c .if1 .taken))
+returns c = two-refused _ _ _ (c .before .before .take-low5 .ensures) (sym (c .before .is-clean .ensures) ∙ not-true _ (c .if1 .taken))
 
 -- the word, once it was tested
-tested : (c : tie.Else1) → TwoRead (now (c .before .before .before .before .args .s)) (c .before .before .before .before .args .at) (c .before .before .five-at .result) (bitXor (c .before .before .five-at .result) 206967550000)
-tested c = two-read _ _ _ (c .before .before .five-at .ensures) (sym (c .before .is-clean .ensures) ∙ not-false _ (c .if1 .left))
+tested : (c : tie.Else1) → TwoRead (now (c .before .before .before .before .args .s)) (c .before .before .before .before .args .at) (c .before .before .take-low5 .result) (bitXor (c .before .before .take-low5 .result) 206967550000)
+tested c = two-read _ _ _ (c .before .before .take-low5 .ensures) (sym (c .before .is-clean .ensures) ∙ not-false _ (c .if1 .left))
 
 mul-pairs : tie.Need-mul-pairs
 mul-pairs c = omega (arith, tested c .small)
@@ -41,7 +41,7 @@ pub two-pairs-spec : {M : Type 1} → statement M
 two-pairs-spec =
     tie.close
     (tie.spec
-    five-at-requires
+    take-low5-requires
     is-clean-requires
     returns
     mul-pairs

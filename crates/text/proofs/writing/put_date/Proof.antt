@@ -21,11 +21,11 @@ two-digits-requires c κs =
     let a = c .before .before .before in
     omega (arith, c .before .century .ensures, date-small (dayFrom (a .args .date)) (a .pre .0) .0)
 
-add-put-two : tie.Need-add-put-two
-add-put-two c = search needs
+add-put-low2 : tie.Need-add-put-low2
+add-put-low2 c = search needs
 
-put-two-requires : tie.Need-put-two-requires
-put-two-requires c κs = search needs
+put-low2-requires : tie.Need-put-low2-requires
+put-low2-requires c κs = search needs
 
 mul-year-month-day : tie.Need-mul-year-month-day
 mul-year-month-day c = search needs
@@ -39,8 +39,8 @@ year-month-day-requires c κs =
     let s = date-small (dayFrom (a .args .date)) (a .pre .0) in
     (omega (arith, c .before .before .before .before .before .before .century .ensures), s .1, s .2)
 
-put-eight-requires : tie.Need-put-eight-requires
-put-eight-requires c κs = search needs
+put-low8-requires : tie.Need-put-low8-requires
+put-low8-requires c κs = search needs
 
 same-length : tie.Need-same-length
 same-length c = search needs
@@ -51,8 +51,8 @@ returns c =
     let a = y .before .before in
     let s = date-small (dayFrom (a .args .date)) (a .pre .0) in
     let h = y .century .result in
-    c .before .before .put-eight .ensures
-    ∙ rw (c .before .before .before .before .before .before .before .put-two .ensures, c .before .before .before .year-month-day .ensures, c .before .before .before .before .before .before .before .before .two-digits .ensures .word, two-word h (omega (arith, y .century .ensures, s .0)))
+    c .before .before .put-low8 .ensures
+    ∙ rw (c .before .before .before .before .before .before .before .put-low2 .ensures, c .before .before .before .year-month-day .ensures, c .before .before .before .before .before .before .before .before .two-digits .ensures .word, two-word h (omega (arith, y .century .ensures, s .0)))
     (date-stored (now (a .args .buf)) (dayFrom (a .args .date)) h (a .args .date .year - 100 * h) (y .century .ensures) (omega (arith, y .century .ensures)))
 
 pub put-date-spec : {M : Type 1} → statement M
@@ -62,11 +62,11 @@ put-date-spec =
     century-requires
     cast-two-digits
     two-digits-requires
-    add-put-two
-    put-two-requires
+    add-put-low2
+    put-low2-requires
     mul-year-month-day
     sub-year-month-day
     year-month-day-requires
-    put-eight-requires
+    put-low8-requires
     same-length
     returns)

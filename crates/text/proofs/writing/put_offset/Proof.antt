@@ -9,8 +9,9 @@ use mir.Val.{toZ, ofZ}
 use mir.Facts.{toZ-ofZ}
 use denote.Ref.{now}
 use borrow.Author.Needs.{sfits-of}
-use Rattle.text.specs.Putting.{lowFirst, offsetOctets}
-use Rattle.text.proofs.PuttingWords.{low-six}
+use Rattle.octets.specs.Words.{lowOctets}
+use Rattle.octets.proofs.LowFirst.{low-six}
+use Rattle.text.specs.Putting.{offsetOctets}
 use Rattle.text.proofs.Putting.{offset-small, offset-parts}
 use borrow.Author.Needs.{needs}
 use Rattle.text.proofs.writing.put_offset.Statement.{statement}
@@ -31,14 +32,14 @@ sign-hour-minute-requires c κs =
     let n : c .size .result ≡ natAbs m = c .size .ensures ∙ ap natAbs e in
     omega (arith, offset-small m (a .pre .0))
 
-put-four-requires : tie.Need-put-four-requires
-put-four-requires c κs = search needs
+put-low4-requires : tie.Need-put-low4-requires
+put-low4-requires c κs = search needs
 
-add-put-two : tie.Need-add-put-two
-add-put-two c = search needs
+add-put-low2 : tie.Need-add-put-low2
+add-put-low2 c = search needs
 
-put-two-requires : tie.Need-put-two-requires
-put-two-requires c κs = search needs
+put-low2-requires : tie.Need-put-low2-requires
+put-low2-requires c κs = search needs
 
 same-length : tie.Need-same-length
 same-length c = search needs
@@ -51,9 +52,9 @@ returns c =
     let m = a .args .offset .minutes in
     let e : toZ w32 (ofZ w32 m) ≡ m = toZ-ofZ (sfits-of (search needs)) in
     let n : z .size .result ≡ natAbs m = z .size .ensures ∙ ap natAbs e in
-    let o : lowFirst 6 (w .sign-hour-minute .result) ≡ offsetOctets true m = w .sign-hour-minute .ensures ∙ rw (n, e) (offset-parts m) in
-    c .before .before .put-two .ensures
-    ∙ rw (c .before .before .before .before .before .before .put-four .ensures) (low-six (now (a .args .buf)) (a .args .at) (w .sign-hour-minute .result) ∙ ap (sets (now (a .args .buf)) (a .args .at)) o)
+    let o : lowOctets 6 (w .sign-hour-minute .result) ≡ offsetOctets true m = w .sign-hour-minute .ensures ∙ rw (n, e) (offset-parts m) in
+    c .before .before .put-low2 .ensures
+    ∙ rw (c .before .before .before .before .before .before .put-low4 .ensures) (low-six (now (a .args .buf)) (a .args .at) (w .sign-hour-minute .result) ∙ ap (sets (now (a .args .buf)) (a .args .at)) o)
 
 pub put-offset-spec : {M : Type 1} → statement M
 put-offset-spec =
@@ -61,8 +62,8 @@ put-offset-spec =
     (tie.spec
     size-requires
     sign-hour-minute-requires
-    put-four-requires
-    add-put-two
-    put-two-requires
+    put-low4-requires
+    add-put-low2
+    put-low2-requires
     same-length
     returns)

@@ -20,11 +20,11 @@ point-digits-requires c κs = search needs
 fraction-length-requires : tie.Need-fraction-length-requires
 fraction-length-requires c κs = search needs
 
-put-eight-requires : tie.Need-put-eight-requires
-put-eight-requires c κs = search needs
+put-low8-requires : tie.Need-put-low8-requires
+put-low8-requires c κs = search needs
 
-add-put-eight : tie.Need-add-put-eight
-add-put-eight c = search needs
+add-put-low8 : tie.Need-add-put-low8
+add-put-low8 c = search needs
 
 shifted-requires : tie.Need-shifted-requires
 shifted-requires c κs =
@@ -32,8 +32,8 @@ shifted-requires c κs =
     let a = l .before .before .before .before in
     (omega (arith, l .fraction-length .ensures, fraction-narrow (a .args .digits), a .pre .1), l .before .point-digits .ensures .front)
 
-put-eight-requires-2 : tie.Need-put-eight-requires-2
-put-eight-requires-2 c κs = search needs
+put-low8-requires-2 : tie.Need-put-low8-requires-2
+put-low8-requires-2 c κs = search needs
 
 same-length : tie.Need-same-length
 same-length c = search needs
@@ -45,8 +45,8 @@ returns c =
     let k = p .before in
     let a = k .before .before in
     let few = fraction-narrow (a .args .digits) in
-    c .before .before .put-eight2 .ensures
-    ∙ rw (c .before .before .before .before .before .before .before .put-eight .ensures, c .before .before .before .shifted .ensures)
+    c .before .before .put-low82 .ensures
+    ∙ rw (c .before .before .before .before .before .before .before .put-low8 .ensures, c .before .before .before .shifted .ensures)
     (time-stored (now (a .args .buf)) (a .args .at) (a .args .digits) (a .args .time .micros) (k .hour-minute-second .result) (p .point-digits .result / 256) (l .fraction-length .result)
     (a .pre .1) (l .fraction-length .ensures) (omega (arith, l .fraction-length .ensures, few, a .pre .1)) (k .hour-minute-second .ensures) (p .point-digits .ensures .octets))
 
@@ -58,9 +58,9 @@ put-time-spec =
     cast-point-digits
     point-digits-requires
     fraction-length-requires
-    put-eight-requires
-    add-put-eight
+    put-low8-requires
+    add-put-low8
     shifted-requires
-    put-eight-requires-2
+    put-low8-requires-2
     same-length
     returns)

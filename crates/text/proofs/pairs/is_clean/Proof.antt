@@ -1,9 +1,9 @@
 -- `is_clean` meets its contract: the two tests, in the definition's order. Assumes nothing.
 use borrow.Author.Tests.{eq-eqb, ne-eqb}
-use Rattle.text.specs.Loading.{clean}
+use Rattle.text.specs.Pairs.{clean}
 use borrow.Author.Needs.{needs}
-use Rattle.text.proofs.loading.is_clean.Statement.{statement}
-use Rattle.text.proofs.loading.is_clean.Tie as tie
+use Rattle.text.proofs.pairs.is_clean.Statement.{statement}
+use Rattle.text.proofs.pairs.is_clean.Tie as tie
 
 returns : tie.Need-returns
 unfolding clean

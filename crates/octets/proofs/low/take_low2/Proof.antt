@@ -1,10 +1,10 @@
--- `two_at` meets its contract: two octets are below 65,536. Assumes nothing.
+-- `take_low2` meets its contract: two octets are below 65,536. Assumes nothing.
 use native.Mathlib.Omega.{arith}
 use Prim.Native.Nat.{_+_}
-use Rattle.text.proofs.Joining.{two-loads}
+use Rattle.octets.proofs.Joining.{two-loads}
 use borrow.Author.Needs.{needs}
-use Rattle.text.proofs.loading.two_at.Statement.{statement}
-use Rattle.text.proofs.loading.two_at.Tie as tie
+use Rattle.octets.proofs.low.take_low2.Statement.{statement}
+use Rattle.octets.proofs.low.take_low2.Tie as tie
 
 shared-slice-read-low : tie.Need-shared-slice-read-low
 shared-slice-read-low c = search needs
@@ -30,8 +30,8 @@ add-result c = omega (arith, c .shared-slice-known2 .given (c .before .before .a
 returns : tie.Need-returns
 returns c = two-loads _ _ (λ k. omega (arith, c .shared-slice-known2 .given k))
 
-pub two-at-spec : {M : Type 1} → statement M
-two-at-spec =
+pub take-low2-spec : {M : Type 1} → statement M
+take-low2-spec =
     tie.close
     (tie.spec
     shared-slice-read-low

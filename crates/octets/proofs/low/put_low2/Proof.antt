@@ -3,8 +3,8 @@ use native.Mathlib.Omega.{arith}
 use lib.ListN.{length-set}
 use Rattle.octets.proofs.LowFirst.{low-two}
 use borrow.Author.Needs.{needs}
-use Rattle.octets.proofs.words.put_low2.Statement.{statement}
-use Rattle.octets.proofs.words.put_low2.Tie as tie
+use Rattle.octets.proofs.low.put_low2.Statement.{statement}
+use Rattle.octets.proofs.low.put_low2.Tie as tie
 
 cast-buf : tie.Need-cast-buf
 cast-buf c = search needs
@@ -25,7 +25,7 @@ same-length : tie.Need-same-length
 same-length c = search needs
 
 returns : tie.Need-returns
-returns c = low-two (c .args .buf .now) (c .args .at) (c .args .x) (omega arith)
+returns c = low-two (c .args .buf .now) (c .args .at) (c .args .w)
 
 pub put-low2-spec : {M : Type 1} → statement M
 put-low2-spec =

@@ -1,10 +1,10 @@
--- `five_at` meets its contract: four octets, and one behind them. Assumes nothing.
+-- `take_low5` meets its contract: four octets, and one behind them. Assumes nothing.
 use native.Mathlib.Omega.{arith}
 use Prim.Native.Nat.{_+_}
-use Rattle.text.proofs.Joining.{four-small, five-loads}
+use Rattle.octets.proofs.Joining.{four-small, five-loads}
 use borrow.Author.Needs.{needs}
-use Rattle.text.proofs.loading.five_at.Statement.{statement}
-use Rattle.text.proofs.loading.five_at.Tie as tie
+use Rattle.octets.proofs.low.take_low5.Statement.{statement}
+use Rattle.octets.proofs.low.take_low5.Tie as tie
 
 add-last : tie.Need-add-last
 add-last c = search needs
@@ -18,23 +18,23 @@ cast-last c = omega (arith, c .shared-slice-known2 .given (c .before .before .ar
 mul-result : tie.Need-mul-result
 mul-result c = omega (arith, c .shared-slice-known2 .given (c .before .before .args .at + 4))
 
-four-at-requires : tie.Need-four-at-requires
-four-at-requires c κs = search needs
+take-low4-requires : tie.Need-take-low4-requires
+take-low4-requires c κs = search needs
 
 add-result : tie.Need-add-result
-add-result c = omega (arith, four-small _ _ _ (c .four-at .ensures), c .before .shared-slice-known2 .given (c .before .before .before .args .at + 4))
+add-result c = omega (arith, four-small _ _ _ (c .take-low4 .ensures), c .before .shared-slice-known2 .given (c .before .before .before .args .at + 4))
 
 returns : tie.Need-returns
-returns c = five-loads _ _ _ (c .four-at .ensures)
+returns c = five-loads _ _ _ (c .take-low4 .ensures)
 
-pub five-at-spec : {M : Type 1} → statement M
-five-at-spec =
+pub take-low5-spec : {M : Type 1} → statement M
+take-low5-spec =
     tie.close
     (tie.spec
     add-last
     shared-slice-read-last
     cast-last
     mul-result
-    four-at-requires
+    take-low4-requires
     add-result
     returns)

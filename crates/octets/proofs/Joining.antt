@@ -1,11 +1,11 @@
--- Words made of shorter ones: octets two, four, five and eight at a time are one number. Assumes nothing.
-use mathlib.Core.Path.{_≡_, refl}
+-- Words that are loaded, made of shorter ones: octets two, four, five and eight at a time are one number, and it is small. Assumes nothing.
+use mathlib.Core.Path.{_≡_}
 use mathlib.Core.List.{List}
 use Prim.Native.Nat.{ℕ, _+_, _*_, _<_}
 use native.Mathlib.Omega.{arith}
 use lib.ListN.{getD}
 use Rattle.format.specs.Octets.{Octets}
-use Rattle.text.specs.Loading.{word, two, four, five, eight, Loads}
+use Rattle.octets.specs.Words.{word, two, four, five, eight, Loads}
 
 module _ (s : List ℕ) (at : ℕ) where
   pub two-loads : Octets s → Loads (two s at) s (getD s (at + 1) 0 * 256 + getD s at 0)
