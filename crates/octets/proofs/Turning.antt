@@ -5,6 +5,7 @@ use Prim.Native.Nat.{ℕ, zero, suc, _+_, _*_, _/_, _%_, _^_, _<_}
 use native.Mathlib.Nat.{pow-suc, mul-assoc, add-comm}
 use native.Mathlib.Omega.{arith}
 use lib.ListN.{getD}
+use lib.Seq.{sets}
 use Rattle.format.specs.Octets.{unsignedOctets, unsignedAt}
 use Rattle.octets.specs.Words.{lowOctets, word, four, Loads, turnedTwo, turnedFour}
 use Rattle.octets.proofs.LowFirst.{low-none, low-first, low-append, four-quotients}
@@ -59,17 +60,17 @@ unsigned-split : (x : ℕ) → unsignedOctets 4 (x / 4294967296) ++ unsignedOcte
 unfolding unsignedOctets
 unsigned-split x = rw (← four-quotients x)
 
-pub unsigned-halves : (x : ℕ) → unsignedOctets 4 (x / 4294967296) ++ unsignedOctets 4 (x % 4294967296) ≡ unsignedOctets 8 x
+unsigned-halves : (x : ℕ) → unsignedOctets 4 (x / 4294967296) ++ unsignedOctets 4 (x % 4294967296) ≡ unsignedOctets 8 x
 unsigned-halves x =
     let e : x ≡ x / 4294967296 * 4294967296 + x % 4294967296 = omega arith in
     let r : unsignedOctets 4 (x % 4294967296) ≡ unsignedOctets 4 x = sym (ap (unsignedOctets 4) e ∙ unsigned-over 4 (x / 4294967296) (x % 4294967296)) in
     rw r (unsigned-split x)
 
-pub turned-small : (x : ℕ) → x < 4294967296 → turnedFour x < 4294967296
+turned-small : (x : ℕ) → x < 4294967296 → turnedFour x < 4294967296
 unfolding turnedFour
 turned-small x h = omega arith
 
-pub turned-eight : (x : ℕ) → x < 18446744073709551616
+turned-eight : (x : ℕ) → x < 18446744073709551616
     → lowOctets 8 (turnedFour (x % 4294967296) * 4294967296 + turnedFour (x / 4294967296)) ≡ unsignedOctets 8 x
 turned-eight x h =
     let f : x / 4294967296 < 4294967296 = omega arith in
@@ -77,6 +78,11 @@ turned-eight x h =
     ap (lowOctets 8) (add-comm _ (turnedFour (x / 4294967296)))
     ∙ low-append 4 4 (turnedFour (x / 4294967296)) (turnedFour (x % 4294967296)) (turned-small (x / 4294967296) f)
     ∙ rw (turned-four (x / 4294967296) f, turned-four (x % 4294967296) l) (unsigned-halves x)
+
+-- over the word that code adds up: a wrong sum is then told as that
+pub eight-stored : (l : List ℕ) (i x w : ℕ) → x < 18446744073709551616
+    → w ≡ turnedFour (x % 4294967296) * 4294967296 + turnedFour (x / 4294967296) → sets l i (lowOctets 8 w) ≡ sets l i (unsignedOctets 8 x)
+eight-stored l i x w h e = rw (e, turned-eight x h)
 
 -- ---- loaded
 

@@ -1,8 +1,7 @@
 -- `put8` meets its contract: each half turned, the first one low, and stored least significant first. Assumes nothing.
 use native.Mathlib.Omega.{arith}
-use mathlib.Core.Path.{_∙_, ap}
-use lib.Seq.{sets}
-use Rattle.octets.proofs.Turning.{turned-eight}
+use mathlib.Core.Path.{_∙_}
+use Rattle.octets.proofs.Turning.{eight-stored}
 use borrow.Author.Needs.{needs}
 use Rattle.octets.proofs.words.put8.Statement.{statement}
 use Rattle.octets.proofs.words.put8.Tie as tie
@@ -39,9 +38,11 @@ same-length c = search needs
 
 returns : tie.Need-returns
 returns c =
-    let a = c .before .before .before .before .before .before .before .args in
+    let last = c .before .before .before .before in
+    let first = last .before in
+    let a = first .before .before .args in
     c .before .before .put-low8 .ensures
-    ∙ rw (c .before .before .before .before .turned42 .ensures, c .before .before .before .before .before .turned4 .ensures) (ap (sets (a .buf .now) (a .at)) (turned-eight (a .x) (omega arith)))
+    ∙ eight-stored (a .buf .now) (a .at) (a .x) _ (omega arith) (omega (arith, last .turned42 .ensures, first .turned4 .ensures))
 
 pub put8-spec : {M : Type 1} → statement M
 put8-spec =
