@@ -3,9 +3,9 @@ pub mod Since
 pub mod Bits
 pub mod Flags
 pub mod Shortest
+pub mod Room
 pub mod Seeing
 pub mod Stored
-pub mod Room
 pub mod ReadingSteps
 pub mod InRange
 pub mod WritingSteps

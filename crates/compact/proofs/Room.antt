@@ -14,7 +14,7 @@ use Rattle.format.specs.CompactReading.{longest, shortest, longestPlain, carrie
 use Rattle.format.proofs.Cases.{both-true, lt-or-le}
 use Rattle.format.proofs.Compact.{behind}
 
-some-octets : (k : Kind) (c : Bool) → 1 ≤ paddedTo k c
+pub some-octets : (k : Kind) (c : Bool) → 1 ≤ paddedTo k c
 unfolding paddedTo
 some-octets k c = go c (timed k) (dated k)
   where

@@ -1,25 +1,31 @@
 -- What is taken from an image of a common length, by its fields: alone, or behind an offset. Assumes nothing.
 use mathlib.Core.Path.{_≡_, refl, sym, _∙_, ap}
+use mathlib.Core.Logic.{⊎-elim}
 use mathlib.Core.Bool.{Bool, true, false, not}
 use mathlib.Core.List.{List}
-use Prim.Native.Nat.{ℕ, _+_, _-_, _<_, _≤_}
+use Prim.Native.Nat.{ℕ, _+_, _-_, _^_, _<_, _≤_}
 use native.Mathlib.Omega.{arith}
 use lib.IntN.{ℤ, pos, natAbs}
 use lib.Signed.{mag}
-use lib.Dec.{leb, eqb}
-use lib.ListN.{length, take, drop, length-drop}
+use lib.Dec.{leb, ltb, eqb}
+use lib.ListN.{length, take, drop, getD, length-drop}
 use lib.Seq.{take-all}
+use mir.Syntax.{w8, w64}
+use mir.Val.{Fits, toZ, ofZ}
+use mir.Facts.{toZ-ofZ}
 use borrow.Author.Tests.{lt-ltb, le-ltb, le-leb}
-use Rattle.format.specs.Words.{both, needs}
+use Rattle.format.specs.Words.{both, needs, ifAny}
 use Rattle.format.specs.Values.{Kind, Date, DateTz, Time, TimeTz, Datetime, DatetimeTz, timed, zoned}
-use Rattle.format.specs.Octets.{Octets, half, signedOf}
+use Rattle.format.specs.Octets.{Octets, half, signedOf, fewestOctets}
 use Rattle.format.specs.Compact.{paddedTo, numberOctets}
 use Rattle.format.specs.CompactReading.{longest, shortest, longestPlain, carriedIn, usual}
+use Rattle.format.proofs.Cases.{both-false, lt-or-le}
 use Rattle.format.proofs.Signed.{drop-octets}
 use Rattle.compact.specs.declared.reading.Taken.{Taken}
 use Rattle.compact.specs.declared.common.Seen.the-variants as S
-use Rattle.compact.specs.Meaning.{Takes, Sees}
+use Rattle.compact.specs.Meaning.{Takes, Sees, SeesAlone}
 use Rattle.compact.proofs.Shortest.{padded-shortest, beyond-shortest}
+use Rattle.compact.proofs.Room.{some-octets}
 
 pub both-last : (t : Bool) → both t true ≡ t
 both-last true = refl
@@ -49,112 +55,71 @@ shortest-behind TimeTz = omega arith
 shortest-behind Datetime = omega arith
 shortest-behind DatetimeTz = omega arith
 
--- ---- alone
+-- ---- what stands there, with an offset in front or none
 
-module _ (s : List ℕ) (o : Octets s) (n : ℕ) (l : length s ≡ n) (some : 2 ≤ n) where
-  all : take n (drop 0 s) ≡ s
-  all = take-all n s (omega arith)
+module _ (k : Kind) (front : Bool) (n : ℕ) (s : List ℕ) (o : Octets s) (l : length s ≡ ifAny front 2 + n) where
+  abbrev behind : List ℕ
+  behind = drop (ifAny front 2) s
 
-  alone-usual : (k : Kind) (m x : ℤ) → x ≡ signedOf s → leb (half (n - 1)) (mag x) ≡ usual k false m (length s) x
-  unfolding usual numberOctets paddedTo
-  alone-usual k m x e = rw (e, both-last, ← l) (beyond-shortest s 1 o (omega arith) (omega arith))
+  behind-length : length behind ≡ n
+  behind-length = rw length-drop (omega arith)
 
-  pub sees-alone : (k : Kind) (t : Taken) → carriedIn k (length s) ≡ false → n ≤ longest k
-      → t .front ≡ false → t .minutes ≡ pos 0 → t .number ≡ signedOf (take n (drop 0 s)) → t .usual ≡ leb (half (n - 1)) (mag (t .number)) → Sees k s (S.Taken t)
-  unfolding signedOf
-  sees-alone k t c q f m x u =
-      let e : t .number ≡ signedOf s = x ∙ ap signedOf all in (
-        has-length k (length s) (omega (arith, alone-shortest k (length s) c)) (omega arith),
-        record {
-          front = f ∙ sym c;
-          minutes = rw (f, m);
-          number = rw f e;
-          usual = rw f (u ∙ alone-usual k (t .minutes) (t .number) e);
-        },
-      )
+  -- no more octets than the padding, or the number needs them
+  needed : (x : ℤ) → x ≡ signedOf behind → needs (ltb (paddedTo k front) n) (leb (half (n - 1)) (mag x)) ≡ leb n (numberOctets k front x)
+  unfolding numberOctets
+  needed x e =
+      ⊎-elim (λ h.
+      rw (lt-ltb (paddedTo k front) n h, e, ← behind-length) (beyond-shortest behind (paddedTo k front) (drop-octets (ifAny front 2) s o) (some-octets k front) (omega (arith, behind-length))))
+      (λ h. rw (le-ltb (paddedTo k front) n h) (padded-shortest n (paddedTo k front) (fewestOctets x) h))
+      (lt-or-le (paddedTo k front) n)
 
--- ---- behind an offset
-
-module _ (s : List ℕ) (o : Octets s) (n : ℕ) (l : length s ≡ 2 + n) where
-  rest : length (drop 2 s) ≡ n
-  rest = rw length-drop (omega arith)
-
-  rest-all : take n (drop 2 s) ≡ drop 2 s
-  rest-all = take-all n (drop 2 s) (omega (arith, rest))
-
-  takes-behind : (k : Kind) (t : Taken) → carriedIn k (length s) ≡ true
-      → t .front ≡ true → t .minutes ≡ signedOf (take 2 s) → t .number ≡ signedOf (take n (drop 2 s))
-      → t .usual ≡ both (leb n (numberOctets k true (t .number))) (needs (timed k) (not (eqb (natAbs (t .minutes)) 0))) → Takes k s t
+  takes : (t : Taken) → carriedIn k (length s) ≡ front
+      → t .front ≡ front → t .minutes ≡ signedOf (take (ifAny front 2) s) → t .number ≡ signedOf (take n behind)
+      → t .usual ≡ both (needs (ltb (paddedTo k front) n) (leb (half (n - 1)) (mag (t .number)))) (needs (both front (timed k)) (not (eqb (natAbs (t .minutes)) 0))) → Takes k s t
   unfolding usual
-  takes-behind k t c f m x u =
+  takes t c f m x u =
+      let e : t .number ≡ signedOf behind = x ∙ ap signedOf (take-all n behind (omega (arith, behind-length))) in
       record {
         front = f ∙ sym c;
         minutes = rw (f, m);
-        number = rw f (x ∙ ap signedOf rest-all);
-        usual = rw (f, rest) u;
+        number = rw f e;
+        usual = rw (f, behind-length, ← needed (t .number) e) u;
       }
 
-  beyond : (k : Kind) (x : ℤ) → 1 ≤ paddedTo k true → paddedTo k true < n → x ≡ signedOf (take n (drop 2 s))
-      → leb (half (n - 1)) (mag x) ≡ leb n (numberOctets k true x)
-  unfolding numberOctets
-  beyond k x p h e =
-      let w : x ≡ signedOf (drop 2 s) = e ∙ ap signedOf rest-all in
-      rw (w, ← rest) (beyond-shortest (drop 2 s) (paddedTo k true) (drop-octets 2 s o) p (omega (arith, rest)))
+-- ---- as the code has it: n octets, a number x of 64 bits, the test b of it, and the fields
 
-  short : (k : Kind) (x : ℤ) → n ≤ paddedTo k true → leb n (numberOctets k true x) ≡ true
-  unfolding numberOctets
-  short k x h = sym (padded-shortest n (paddedTo k true) _ h)
+module _ (n : ℕ) (s : List ℕ) (known : (i : ℕ) → Fits w8 (getD s i 0)) where
+  octets : Octets s
+  octets i = known i .fits
 
-  fits : (k : Kind) → 4 ≤ 2 + n → 2 + n ≤ longest k → both (leb (shortest k) (length s)) (leb (length s) (longest k)) ≡ true
-  fits k p q = has-length k (length s) (omega (arith, shortest-behind k)) (omega arith)
+  pub sees-alone : length s ≡ n → 2 ≤ n → {x : ℤ} → mag x < 2 ^ 63 → x ≡ signedOf (take n (drop 0 s))
+      → {b : Bool} → b ≡ leb (half (n - 1)) (mag (toZ w64 (ofZ w64 x)))
+      → (t : Taken) → (t .front ≡ false) × (t .minutes ≡ pos 0) × (t .number ≡ toZ w64 (ofZ w64 x)) × (t .usual ≡ b)
+      → {most : ℕ} → n ≤ most → SeesAlone most s (S.Taken t)
+  unfolding signedOf paddedTo
+  sees-alone l some ok x-is b-is t (f, m, x, u) few k c q = (
+    has-length k (length s) (omega (arith, alone-shortest k (length s) c)) (omega arith),
+    takes k false n s octets (omega arith) t c f m (x ∙ toZ-ofZ (record { sfits = ok }) ∙ x-is) (rw (lt-ltb 1 n some, both-last, x) (u ∙ b-is)),
+  )
 
-  -- no more octets than the padding
-  pub sees-padded : (k : Kind) (t : Taken) → 4 ≤ 2 + n → 2 + n ≤ longest k → carriedIn k (length s) ≡ true → n ≤ paddedTo k true
-      → t .front ≡ true → t .minutes ≡ signedOf (take 2 s) → t .number ≡ signedOf (take n (drop 2 s))
-      → t .usual ≡ needs (timed k) (not (eqb (natAbs (t .minutes)) 0)) → Sees k s (S.Taken t)
-  sees-padded k t p q c h f m x u = (fits k p q, takes-behind k t c f m x (rw (short k (t .number) h) u))
+  -- behind an offset of a kind that has one in front at this length
+  pub sees-behind : (k : Kind) → length s ≡ 2 + n → carriedIn k (2 + n) ≡ true → 2 ≤ n → 2 + n ≤ longest k
+      → {x : ℤ} → mag x < 2 ^ 63 → x ≡ signedOf (take n (drop 2 s))
+      → {b : Bool} → b ≡ needs (ltb (paddedTo k true) n) (leb (half (n - 1)) (mag (toZ w64 (ofZ w64 x))))
+      → (t : Taken) → (t .front ≡ true) × (t .minutes ≡ signedOf (take 2 s)) × (t .number ≡ toZ w64 (ofZ w64 x)) × (t .usual ≡ both b (needs (timed k) (not (eqb (natAbs (t .minutes)) 0))))
+      → Sees k s (S.Taken t)
+  sees-behind k l c some most ok x-is b-is t (f, m, x, u) = (
+    has-length k (length s) (omega (arith, shortest-behind k)) (omega arith),
+    takes k true n s octets l t (rw l c) f m (x ∙ toZ-ofZ (record { sfits = ok }) ∙ x-is) (rw (x, ← b-is) u),
+  )
 
-  -- more, and the number needs them
-  pub sees-beyond : (k : Kind) (t : Taken) → 4 ≤ 2 + n → 2 + n ≤ longest k → carriedIn k (length s) ≡ true → 1 ≤ paddedTo k true → paddedTo k true < n
-      → t .front ≡ true → t .minutes ≡ signedOf (take 2 s) → t .number ≡ signedOf (take n (drop 2 s))
-      → t .usual ≡ both (leb (half (n - 1)) (mag (t .number))) (needs (timed k) (not (eqb (natAbs (t .minutes)) 0))) → Sees k s (S.Taken t)
-  sees-beyond k t a q c p h f m x u = (fits k a q, takes-behind k t c f m x (rw (← beyond k (t .number) p h x) u))
+-- ---- where no offset stands in front
 
--- ---- the kinds: where an offset is seen from the length, and what is padded behind it
-
-pub carried-date : (n : ℕ) → carriedIn DateTz n ≡ true
-unfolding carriedIn
-carried-date n = refl
-
-pub padded-date : paddedTo DateTz true ≡ 2
-unfolding paddedTo
-padded-date = refl
-
-pub carried-time : (n : ℕ) → 4 < n → carriedIn TimeTz n ≡ true
-unfolding carriedIn longestPlain
-carried-time n h = lt-ltb 4 n h
-
-pub alone-time : (n : ℕ) → n ≤ 4 → carriedIn TimeTz n ≡ false
-unfolding carriedIn longestPlain
-alone-time n h = le-ltb 4 n h
-
-pub padded-time : paddedTo TimeTz true ≡ 3
-unfolding paddedTo
-padded-time = refl
-
-pub carried-datetime : (n : ℕ) → 6 < n → carriedIn DatetimeTz n ≡ true
-unfolding carriedIn longestPlain
-carried-datetime n h = lt-ltb 6 n h
-
-pub alone-datetime : (n : ℕ) → n ≤ 6 → carriedIn DatetimeTz n ≡ false
-unfolding carriedIn longestPlain
-alone-datetime n h = le-ltb 6 n h
-
-pub padded-datetime : paddedTo DatetimeTz true ≡ 5
-unfolding paddedTo
-padded-datetime = refl
-
--- kinds without an offset
 pub never-carried : (k : Kind) (n : ℕ) → zoned k ≡ false → carriedIn k n ≡ false
 unfolding carriedIn
 never-carried k n e = rw e
+
+-- no more octets than a number alone takes
+pub alone : (k : Kind) (n : ℕ) → timed k ≡ true → n ≤ longestPlain k → carriedIn k n ≡ false
+unfolding carriedIn
+alone k n t h = rw (t, le-ltb (longestPlain k) n h, both-false)

@@ -10,8 +10,8 @@ ghost use Rattle.format.specs.Words.{both};
 ghost use Rattle.format.specs.Values.{DateTz, TimeTz, DatetimeTz};
 ghost use Rattle.format.specs.Octets.{signedOf};
 ghost use Rattle.compact.specs.Meaning.{Sees, SeesAlone};
-use crate::Taken;
 use crate::reading;
+use crate::reading::Taken;
 
 pub enum Seen {
     Taken(Taken),

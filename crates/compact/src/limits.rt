@@ -9,7 +9,7 @@ use values::Kind;
 // The day number of 2020-01-01.
 pub const EPOCH: i64 = 737_424;
 
-pub const MILLIS_PER_DAY: i64 = 86_400_000;
+const MILLIS_PER_DAY: i64 = 86_400_000;
 
 // The same, of what is counted from the least number.
 pub const DAY: u64 = 86_400_000;

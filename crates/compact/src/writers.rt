@@ -6,7 +6,7 @@ ghost use Rattle.format.specs.Writing.{encodeIn};
 ghost use Rattle.values.specs.Meaning.{kindFrom, valueFrom};
 ghost use Rattle.values.specs.Promise.{Writes};
 ghost use Rattle.compact.specs.Ranged.{ranged, dayWhereRanged};
-use crate::Imaged;
+use crate::put::Imaged;
 use crate::writing;
 use calendar::Numbered;
 use values::Kind;

@@ -10,9 +10,9 @@ ghost use Rattle.format.specs.Compact.{epoch, number, carried, hasCompact, numb
 ghost use Rattle.calendar.specs.Meaning.{dayFrom};
 ghost use Rattle.values.specs.Meaning.{kindFrom, valueFrom};
 ghost use Rattle.compact.specs.Meaning.{imaged};
-use crate::Image;
-use crate::Imaged;
 use crate::limits;
+use crate::put::Image;
+use crate::put::Imaged;
 use values::Kind;
 use values::Value;
 

@@ -1,9 +1,6 @@
 -- `time_alone` meets its contract: by the length, the number and the test of it are those of all octets. Assumes nothing.
 use borrow.Author.Needs.{needs}
-use mathlib.Core.Path.{_∙_}
 use native.Mathlib.Omega.{arith}
-use mir.Facts.{toZ-ofZ}
-use Rattle.format.specs.Octets.{Octets}
 use Rattle.compact.proofs.Seeing.{sees-alone}
 use Rattle.compact.proofs.common.time_alone.Statement.{statement}
 use Rattle.compact.proofs.common.time_alone.Tie as tie
@@ -19,13 +16,8 @@ alone-requires c κs = search needs
 
 returns : tie.Need-returns
 returns c =
-    λ k e q.
-    let a = c .before .before .before .before in
-    let o : Octets (a .before .args .s .now) = λ i. omega (arith, a .shared-slice-known .given i) in
-    let r = c .alone .ensures in
     let x = c .before .before .signed-4 in
-    sees-alone (a .before .args .s .now) o 4 (c .before .before .before .if1 .taken) (omega arith) k (c .alone .result) e (omega arith) (r .0) (r .1)
-    (r .2 ∙ toZ-ofZ (record { sfits = x .ok }) ∙ x .ensures) (rw (r .2) (r .3 ∙ c .before .is-beyond .ensures))
+    sees-alone 4 _ (c .before .before .before .before .shared-slice-known .given) (c .before .before .before .if1 .taken) (omega arith) (x .ok) (x .ensures) (c .before .is-beyond .ensures) (c .alone .result) (c .alone .ensures) (omega arith)
 
 signed-3-requires : tie.Need-signed-3-requires
 signed-3-requires c κs = search needs
@@ -38,13 +30,8 @@ alone-requires-2 c κs = search needs
 
 returns-2 : tie.Need-returns-2
 returns-2 c =
-    λ k e q.
-    let a = c .before .before .before .before .before in
-    let o : Octets (a .before .args .s .now) = λ i. omega (arith, a .shared-slice-known .given i) in
-    let r = c .alone2 .ensures in
     let x = c .before .before .signed-3 in
-    sees-alone (a .before .args .s .now) o 3 (c .before .before .before .if2 .taken) (omega arith) k (c .alone2 .result) e (omega arith) (r .0) (r .1)
-    (r .2 ∙ toZ-ofZ (record { sfits = x .ok }) ∙ x .ensures) (rw (r .2) (r .3 ∙ c .before .is-beyond2 .ensures))
+    sees-alone 3 _ (c .before .before .before .before .before .shared-slice-known .given) (c .before .before .before .if2 .taken) (omega arith) (x .ok) (x .ensures) (c .before .is-beyond2 .ensures) (c .alone2 .result) (c .alone2 .ensures) (omega arith)
 
 returns-3 : tie.Need-returns-3
 returns-3 c = search needs

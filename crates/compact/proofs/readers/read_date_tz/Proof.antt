@@ -1,12 +1,7 @@
 -- `read_date_tz` meets its contract: what was seen at a glance is what was taken; of a rare length, what `read` says. Assumes nothing.
 use borrow.Author.Needs.{needs}
-use mathlib.Core.Path.{_≡_, refl, sym, _∙_}
-use native.Mathlib.Omega.{arith}
 use Rattle.format.specs.Values.{DateTz}
-use Rattle.compact.specs.declared.common.Seen.the-variants as S
-use Rattle.compact.specs.Meaning.{Sees}
-use Rattle.compact.proofs.ReadingSteps.{by-taken}
-use Rattle.compact.proofs.Seeing.{never-carried}
+use Rattle.compact.proofs.ReadingSteps.{by-seen}
 use Rattle.compact.proofs.readers.read_date_tz.Statement.{statement}
 use Rattle.compact.proofs.readers.read_date_tz.Tie as tie
 
@@ -26,10 +21,7 @@ read-requires : tie.Need-read-requires
 read-requires c κs = search needs
 
 returns : tie.Need-returns
-returns c =
-    let g = c .before .before .before .before in
-    let e : Sees DateTz (g .before .before .args .s .now) (S.Taken _) = rw (c .before .before .taken .given .1) at (g .date-behind .ensures) in
-    c .answer .ensures ∙ sym (by-taken DateTz _ _ (e .0) (e .1))
+returns c = by-seen DateTz _ (c .before .before .taken .given .1) (c .before .before .before .before .date-behind .ensures) (c .answer .ensures)
 
 returns-2 : tie.Need-returns-2
 returns-2 c = search needs

@@ -1,11 +1,9 @@
 -- `read_datetime` meets its contract: what was seen at a glance is what was taken; of a rare length, what `read` says. Assumes nothing.
 use borrow.Author.Needs.{needs}
-use mathlib.Core.Path.{_≡_, refl, sym, _∙_}
+use mathlib.Core.Path.{refl}
 use native.Mathlib.Omega.{arith}
 use Rattle.format.specs.Values.{Datetime}
-use Rattle.compact.specs.declared.common.Seen.the-variants as S
-use Rattle.compact.specs.Meaning.{Sees}
-use Rattle.compact.proofs.ReadingSteps.{by-taken}
+use Rattle.compact.proofs.ReadingSteps.{by-seen}
 use Rattle.compact.proofs.Seeing.{never-carried}
 use Rattle.compact.proofs.readers.read_datetime.Statement.{statement}
 use Rattle.compact.proofs.readers.read_datetime.Tie as tie
@@ -26,10 +24,7 @@ read-requires : tie.Need-read-requires
 read-requires c κs = search needs
 
 returns : tie.Need-returns
-returns c =
-    let g = c .before .before .before .before in
-    let e : Sees Datetime (g .before .before .args .s .now) (S.Taken _) = rw (c .before .before .taken .given .1) at (g .datetime-alone .ensures Datetime (never-carried Datetime _ refl) (omega arith)) in
-    c .answer .ensures ∙ sym (by-taken Datetime _ _ (e .0) (e .1))
+returns c = by-seen Datetime _ (c .before .before .taken .given .1) (c .before .before .before .before .datetime-alone .ensures Datetime (never-carried Datetime _ refl) (omega arith)) (c .answer .ensures)
 
 returns-2 : tie.Need-returns-2
 returns-2 c = search needs

@@ -1,12 +1,7 @@
 -- `read_time_tz` meets its contract: what was seen at a glance is what was taken; of a rare length, what `read` says. Assumes nothing.
 use borrow.Author.Needs.{needs}
-use mathlib.Core.Path.{_≡_, refl, sym, _∙_}
-use native.Mathlib.Omega.{arith}
 use Rattle.format.specs.Values.{TimeTz}
-use Rattle.compact.specs.declared.common.Seen.the-variants as S
-use Rattle.compact.specs.Meaning.{Sees}
-use Rattle.compact.proofs.ReadingSteps.{by-taken}
-use Rattle.compact.proofs.Seeing.{never-carried}
+use Rattle.compact.proofs.ReadingSteps.{by-seen}
 use Rattle.compact.proofs.readers.read_time_tz.Statement.{statement}
 use Rattle.compact.proofs.readers.read_time_tz.Tie as tie
 
@@ -26,10 +21,7 @@ read-requires : tie.Need-read-requires
 read-requires c κs = search needs
 
 returns : tie.Need-returns
-returns c =
-    let g = c .before .before .before .before in
-    let e : Sees TimeTz (g .before .before .args .s .now) (S.Taken _) = rw (c .before .before .taken .given .1) at (g .time-alone-or-behind .ensures) in
-    c .answer .ensures ∙ sym (by-taken TimeTz _ _ (e .0) (e .1))
+returns c = by-seen TimeTz _ (c .before .before .taken .given .1) (c .before .before .before .before .time-alone-or-behind .ensures) (c .answer .ensures)
 
 returns-2 : tie.Need-returns-2
 returns-2 c = search needs

@@ -1,38 +1,15 @@
 -- `write_time` meets its contract: out of range; no compact form; the buffer too short; the image stored. Assumes nothing.
-use mathlib.Core.Path.{_≡_, sym, _∙_, ap}
-use mathlib.Core.Bool.{true, false}
-use native.Mathlib.Omega.{arith}
-use Rattle.format.specs.Words.{accepted, unless}
-use Rattle.format.specs.Values.{Time, Value, inRange}
-use Rattle.format.specs.Compact.{hasCompact, compactImage}
+use Rattle.format.specs.Values.{Time}
 use Rattle.values.specs.Meaning.{valueFrom}
-use Rattle.values.proofs.Writes.{refuses, short, stored}
-use Rattle.compact.specs.Meaning.{imageOctets, imaged}
-use Rattle.compact.specs.Ranged.{ranged, dayWhereRanged}
-use Rattle.compact.proofs.InRange.{was-out, was-in, was-day}
-use Rattle.compact.proofs.WritingSteps.{out-of-range, none, written, small}
+use Rattle.compact.proofs.WritingSteps.{Made, out-of-range, asks-image, no-form, made, too-short, image-stored}
 use borrow.Author.Needs.{needs}
 use Rattle.compact.proofs.writers.write_time.Statement.{statement}
 use Rattle.compact.proofs.writers.write_time.Tie as tie
 
-abbrev value : tie.After-known-told → Value
-value c = valueFrom (c .before .before .before .before .before .args .value)
-
--- what the day number's answer tells
-out : (c : tie.After-enum-told) → inRange Time (valueFrom (c .before .before .before .before .args .value)) ≡ false
-out c = was-out Time _ (sym (ap ranged (c .enum-told .given .1)) ∙ c .before .before .day-in-range .ensures)
-
-day : (c : tie.After-known-told) → accepted (c .before .day .given .0 .0) ≡ dayWhereRanged Time (value c)
-day c = sym (ap ranged (c .before .day .given .1)) ∙ c .before .before .before .day-in-range .ensures
-
-inside : (c : tie.After-known-told) → inRange Time (value c) ≡ true
-inside c = was-in Time (value c) _ (day c)
-
--- what the image's answer tells
-octets : (c : tie.After-known-told2)
-    → (let v = value (c .before .before .before .before) in
-    accepted (imageOctets (c .before .image2 .given .0 .0)) ≡ unless (hasCompact Time v) 3 (accepted (compactImage Time v)))
-octets c = sym (ap imaged (c .before .image2 .given .1)) ∙ c .before .before .before .image .ensures
+image : (c : tie.After-known-told2) → Made Time (valueFrom (c .before .before .before .before .before .before .before .before .before .args .value)) (c .before .image2 .given .0 .0)
+image c =
+    let d = c .before .before .before .before .before in
+    made Time _ (d .day .given .1) (d .before .before .day-in-range .ensures) (c .before .image2 .given .1) (c .before .before .before .image .ensures)
 
 day-in-range-requires : tie.Need-day-in-range-requires
 day-in-range-requires c κs = search needs
@@ -44,10 +21,10 @@ enum-told : tie.Need-enum-told
 enum-told c = search needs
 
 returns : tie.Need-returns
-returns c = rw (out-of-range Time _ (out c)) (refuses 2 _)
+returns c = out-of-range Time _ (c .enum-told .given .1) (c .before .before .day-in-range .ensures) _
 
 image-requires : tie.Need-image-requires
-image-requires c κs = (inside c, was-day Time (value c) _ (day c))
+image-requires c κs = asks-image Time _ (c .before .day .given .1) (c .before .before .before .day-in-range .ensures)
 
 enum-known-image : tie.Need-enum-known-image
 enum-known-image c = search needs
@@ -56,15 +33,15 @@ enum-told-2 : tie.Need-enum-told-2
 enum-told-2 c = search needs
 
 returns-2 : tie.Need-returns-2
-returns-2 c = rw (none Time _ (inside (c .before .before .before)) (sym (ap imaged (c .enum-told2 .given .1)) ∙ c .before .before .image .ensures)) (refuses 3 _)
+returns-2 c =
+    let d = c .before .before .before .before in
+    no-form Time _ (d .day .given .1) (d .before .before .day-in-range .ensures) (c .enum-told2 .given .1) (c .before .before .image .ensures) _
 
 length-requires : tie.Need-length-requires
-length-requires c κs = small Time _ _ (inside (c .before .before .before .before)) (octets c)
+length-requires c κs = image c .small
 
 returns-3 : tie.Need-returns-3
-returns-3 c =
-    let k = c .before .before in
-    rw (written Time _ _ (inside (k .before .before .before .before)) (octets k)) (short _ _ (omega (arith, c .if1 .taken, c .before .length .ensures)))
+returns-3 c = too-short (image (c .before .before)) (c .before .length .ensures) _ (c .if1 .taken)
 
 put-time-requires : tie.Need-put-time-requires
 put-time-requires c κs = search needs
@@ -75,8 +52,7 @@ same-length c = search needs
 returns-4 : tie.Need-returns-4
 returns-4 c =
     let l = c .before .before .before .before .before in
-    let k = l .before in
-    rw (written Time _ _ (inside (k .before .before .before .before)) (octets k)) (stored _ _ _ _ (l .length .ensures) (omega (arith, c .before .before .before .before .if1 .left, l .length .ensures)) (c .before .before .put-time .ensures))
+    image-stored (image (l .before)) (l .length .ensures) _ (c .before .before .before .before .if1 .left) (c .before .before .put-time .ensures)
 
 pub write-time-spec : {M : Type 1} → statement M
 write-time-spec =
