@@ -1,8 +1,8 @@
 -- A value in range and its day number, from the tests of its parts: what `day_in_range` answers, and what its answer tells. Assumes nothing.
-use mathlib.Core.Path.{_≡_, refl, sym, _∙_}
-use mathlib.Core.Bool.{Bool, true, false}
+use mathlib.Core.Path.{_≡_, sym, _∙_}
+use mathlib.Core.Bool.{true, false}
 use Prim.Native.Nat.{ℕ}
-use Rattle.format.specs.Words.{both, ifAny, accepted, refused}
+use Rattle.format.specs.Words.{ifAny, accepted, refused}
 use Rattle.format.specs.Calendar.{isDay, dayNumber, numberAsked}
 use Rattle.format.specs.Values.{Kind, dated, Value, restInRange, inRange}
 use Rattle.format.proofs.Cases.{both-false, passed, same, failed}

@@ -14,8 +14,8 @@ use mir.Syntax.{w8, w64}
 use mir.Val.{Fits, toZ, ofZ}
 use mir.Facts.{toZ-ofZ}
 use borrow.Author.Tests.{lt-ltb, le-ltb, le-leb}
-use Rattle.format.specs.Words.{both, needs, ifAny}
-use Rattle.format.specs.Values.{Kind, Date, DateTz, Time, TimeTz, Datetime, DatetimeTz, timed, zoned}
+use Rattle.format.specs.Words.{pick, both, needs, ifAny}
+use Rattle.format.specs.Values.{Kind, timed, zoned}
 use Rattle.format.specs.Octets.{Octets, half, signedOf, fewestOctets}
 use Rattle.format.specs.Compact.{paddedTo, numberOctets}
 use Rattle.format.specs.CompactReading.{longest, shortest, longestPlain, carriedIn, usual}
@@ -23,7 +23,7 @@ use Rattle.format.proofs.Cases.{both-false, lt-or-le}
 use Rattle.format.proofs.Signed.{drop-octets}
 use Rattle.compact.specs.declared.reading.Taken.{Taken}
 use Rattle.compact.specs.declared.common.Seen.the-variants as S
-use Rattle.compact.specs.Meaning.{Takes, Sees, SeesAlone}
+use Rattle.compact.specs.Meaning.{Sees, SeesAlone}
 use Rattle.compact.proofs.Shortest.{padded-shortest, beyond-shortest}
 use Rattle.compact.proofs.Room.{some-octets}
 
@@ -31,33 +31,16 @@ pub both-last : (t : Bool) → both t true ≡ t
 both-last true = refl
 both-last false = refl
 
--- ---- lengths that compact can have
+-- two octets of a number, with an offset where it is carried, are enough
+enough : (z t c : Bool) (n : ℕ) → 2 ≤ n → pick (both z (not t)) 4 1 ≤ ifAny (both z (needs t c)) 2 + n
+enough true true true n h = omega arith
+enough true true false n h = omega arith
+enough true false c n h = omega arith
+enough false t c n h = omega arith
 
-has-length : (k : Kind) (n : ℕ) → shortest k ≤ n → n ≤ longest k → both (leb (shortest k) n) (leb n (longest k)) ≡ true
-has-length k n p q = rw (le-leb (shortest k) n p, le-leb n (longest k) q)
+-- ---- with an offset in front or none
 
--- only where an offset is always carried is one octet too few
-alone-shortest : (k : Kind) (n : ℕ) → carriedIn k n ≡ false → shortest k ≡ 1
-unfolding carriedIn shortest
-alone-shortest Date n e = refl
-alone-shortest DateTz n e = absurd (let m : _≡_ {A = ℕ} 0 1 = cc in omega arith)
-alone-shortest Time n e = refl
-alone-shortest TimeTz n e = refl
-alone-shortest Datetime n e = refl
-alone-shortest DatetimeTz n e = refl
-
-shortest-behind : (k : Kind) → shortest k ≤ 4
-unfolding shortest
-shortest-behind Date = omega arith
-shortest-behind DateTz = omega arith
-shortest-behind Time = omega arith
-shortest-behind TimeTz = omega arith
-shortest-behind Datetime = omega arith
-shortest-behind DatetimeTz = omega arith
-
--- ---- what stands there, with an offset in front or none
-
-module _ (k : Kind) (front : Bool) (n : ℕ) (s : List ℕ) (o : Octets s) (l : length s ≡ ifAny front 2 + n) where
+module _ (k : Kind) (front : Bool) (n : ℕ) (s : List ℕ) (o : Octets s) (l : length s ≡ ifAny front 2 + n) (c : carriedIn k (length s) ≡ front) where
   abbrev behind : List ℕ
   behind = drop (ifAny front 2) s
 
@@ -73,18 +56,26 @@ module _ (k : Kind) (front : Bool) (n : ℕ) (s : List ℕ) (o : Octets s) (l : 
       (λ h. rw (le-ltb (paddedTo k front) n h) (padded-shortest n (paddedTo k front) (fewestOctets x) h))
       (lt-or-le (paddedTo k front) n)
 
-  takes : (t : Taken) → carriedIn k (length s) ≡ front
+  has-length : 2 ≤ n → length s ≤ longest k → both (leb (shortest k) (length s)) (leb (length s) (longest k)) ≡ true
+  unfolding carriedIn shortest
+  has-length some most =
+      let h : shortest k ≤ length s = rw (l, ← c) (enough (zoned k) (timed k) (ltb (longestPlain k) (length s)) n some) in
+      rw (le-leb (shortest k) (length s) h, le-leb (length s) (longest k) most)
+
+  sees : 2 ≤ n → length s ≤ longest k → (t : Taken)
       → t .front ≡ front → t .minutes ≡ signedOf (take (ifAny front 2) s) → t .number ≡ signedOf (take n behind)
-      → t .usual ≡ both (needs (ltb (paddedTo k front) n) (leb (half (n - 1)) (mag (t .number)))) (needs (both front (timed k)) (not (eqb (natAbs (t .minutes)) 0))) → Takes k s t
+      → t .usual ≡ both (needs (ltb (paddedTo k front) n) (leb (half (n - 1)) (mag (t .number)))) (needs (both front (timed k)) (not (eqb (natAbs (t .minutes)) 0))) → Sees k s (S.Taken t)
   unfolding usual
-  takes t c f m x u =
-      let e : t .number ≡ signedOf behind = x ∙ ap signedOf (take-all n behind (omega (arith, behind-length))) in
-      record {
-        front = f ∙ sym c;
-        minutes = rw (f, m);
-        number = rw f e;
-        usual = rw (f, behind-length, ← needed (t .number) e) u;
-      }
+  sees some most t f m x u =
+      let e : t .number ≡ signedOf behind = x ∙ ap signedOf (take-all n behind (omega (arith, behind-length))) in (
+        has-length some most,
+        record {
+          front = f ∙ sym c;
+          minutes = rw (f, m);
+          number = rw f e;
+          usual = rw (f, behind-length, ← needed (t .number) e) u;
+        },
+      )
 
 -- ---- as the code has it: n octets, a number x of 64 bits, the test b of it, and the fields
 
@@ -97,21 +88,17 @@ module _ (n : ℕ) (s : List ℕ) (known : (i : ℕ) → Fits w8 (getD s i 0)) w
       → (t : Taken) → (t .front ≡ false) × (t .minutes ≡ pos 0) × (t .number ≡ toZ w64 (ofZ w64 x)) × (t .usual ≡ b)
       → {most : ℕ} → n ≤ most → SeesAlone most s (S.Taken t)
   unfolding signedOf paddedTo
-  sees-alone l some ok x-is b-is t (f, m, x, u) few k c q = (
-    has-length k (length s) (omega (arith, alone-shortest k (length s) c)) (omega arith),
-    takes k false n s octets (omega arith) t c f m (x ∙ toZ-ofZ (record { sfits = ok }) ∙ x-is) (rw (lt-ltb 1 n some, both-last, x) (u ∙ b-is)),
-  )
+  sees-alone l some ok x-is b-is t (f, m, x, u) few k c q =
+      sees k false n s octets (omega arith) c some (omega arith) t f m (x ∙ toZ-ofZ (record { sfits = ok }) ∙ x-is) (rw (lt-ltb 1 n some, both-last, x) (u ∙ b-is))
 
-  -- behind an offset of a kind that has one in front at this length
+  -- of a kind that has an offset in front at this length
   pub sees-behind : (k : Kind) → length s ≡ 2 + n → carriedIn k (2 + n) ≡ true → 2 ≤ n → 2 + n ≤ longest k
       → {x : ℤ} → mag x < 2 ^ 63 → x ≡ signedOf (take n (drop 2 s))
       → {b : Bool} → b ≡ needs (ltb (paddedTo k true) n) (leb (half (n - 1)) (mag (toZ w64 (ofZ w64 x))))
       → (t : Taken) → (t .front ≡ true) × (t .minutes ≡ signedOf (take 2 s)) × (t .number ≡ toZ w64 (ofZ w64 x)) × (t .usual ≡ both b (needs (timed k) (not (eqb (natAbs (t .minutes)) 0))))
       → Sees k s (S.Taken t)
-  sees-behind k l c some most ok x-is b-is t (f, m, x, u) = (
-    has-length k (length s) (omega (arith, shortest-behind k)) (omega arith),
-    takes k true n s octets l t (rw l c) f m (x ∙ toZ-ofZ (record { sfits = ok }) ∙ x-is) (rw (x, ← b-is) u),
-  )
+  sees-behind k l c some most ok x-is b-is t (f, m, x, u) =
+      sees k true n s octets l (rw l c) some (omega arith) t f m (x ∙ toZ-ofZ (record { sfits = ok }) ∙ x-is) (rw (x, ← b-is) u)
 
 -- ---- where no offset stands in front
 
