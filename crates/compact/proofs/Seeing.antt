@@ -85,19 +85,19 @@ module _ (n : ℕ) (s : List ℕ) (known : (i : ℕ) → Fits w8 (getD s i 0)) w
 
   pub sees-alone : length s ≡ n → 2 ≤ n → {x : ℤ} → mag x < 2 ^ 63 → x ≡ signedOf (take n (drop 0 s))
       → {b : Bool} → b ≡ leb (half (n - 1)) (mag (toZ w64 (ofZ w64 x)))
-      → (t : Taken) → (t .front ≡ false) × (t .minutes ≡ pos 0) × (t .number ≡ toZ w64 (ofZ w64 x)) × (t .usual ≡ b)
+      → {t : Taken} → (t .front ≡ false) × (t .minutes ≡ pos 0) × (t .number ≡ toZ w64 (ofZ w64 x)) × (t .usual ≡ b)
       → {most : ℕ} → n ≤ most → SeesAlone most s (S.Taken t)
   unfolding signedOf paddedTo
-  sees-alone l some ok x-is b-is t (f, m, x, u) few k c q =
+  sees-alone l some ok x-is b-is {t} (f, m, x, u) few k c q =
       sees k false n s octets (omega arith) c some (omega arith) t f m (x ∙ toZ-ofZ (record { sfits = ok }) ∙ x-is) (rw (lt-ltb 1 n some, both-last, x) (u ∙ b-is))
 
   -- of a kind that has an offset in front at this length
   pub sees-behind : (k : Kind) → length s ≡ 2 + n → carriedIn k (2 + n) ≡ true → 2 ≤ n → 2 + n ≤ longest k
       → {x : ℤ} → mag x < 2 ^ 63 → x ≡ signedOf (take n (drop 2 s))
       → {b : Bool} → b ≡ needs (ltb (paddedTo k true) n) (leb (half (n - 1)) (mag (toZ w64 (ofZ w64 x))))
-      → (t : Taken) → (t .front ≡ true) × (t .minutes ≡ signedOf (take 2 s)) × (t .number ≡ toZ w64 (ofZ w64 x)) × (t .usual ≡ both b (needs (timed k) (not (eqb (natAbs (t .minutes)) 0))))
+      → {t : Taken} → (t .front ≡ true) × (t .minutes ≡ signedOf (take 2 s)) × (t .number ≡ toZ w64 (ofZ w64 x)) × (t .usual ≡ both b (needs (timed k) (not (eqb (natAbs (t .minutes)) 0))))
       → Sees k s (S.Taken t)
-  sees-behind k l c some most ok x-is b-is t (f, m, x, u) =
+  sees-behind k l c some most ok x-is b-is {t} (f, m, x, u) =
       sees k true n s octets l (rw l c) some (omega arith) t f m (x ∙ toZ-ofZ (record { sfits = ok }) ∙ x-is) (rw (x, ← b-is) u)
 
 -- ---- where no offset stands in front

@@ -19,7 +19,7 @@ returns : tie.Need-returns
 unfolding carriedIn paddedTo
 returns c =
     let x = c .before .signed-2 in
-    sees-behind 2 _ (c .before .before .before .shared-slice-known .given) DateTz (c .before .before .if1 .taken) refl (omega arith) (omega arith) (x .ok) (x .ensures) refl (c .behind .result) (c .behind .ensures)
+    sees-behind 2 _ (c .before .before .before .shared-slice-known .given) DateTz (c .before .before .if1 .taken) refl (omega arith) (omega arith) (x .ok) (x .ensures) refl (c .behind .ensures)
 
 signed-3-requires : tie.Need-signed-3-requires
 signed-3-requires c κs = search needs
@@ -35,8 +35,7 @@ unfolding carriedIn paddedTo
 returns-2 c =
     let x = c .before .before .signed-3 in
     let r = c .behind2 .ensures in
-    sees-behind 3 _ (c .before .before .before .before .before .shared-slice-known .given) DateTz (c .before .before .before .if2 .taken) refl (omega arith) (omega arith) (x .ok) (x .ensures) (c .before .is-beyond .ensures) (c .behind2 .result)
-    (r .0, r .1, r .2, rw both-last (r .3))
+    sees-behind 3 _ (c .before .before .before .before .before .shared-slice-known .given) DateTz (c .before .before .before .if2 .taken) refl (omega arith) (omega arith) (x .ok) (x .ensures) (c .before .is-beyond .ensures) (r .0, r .1, r .2, rw both-last (r .3))
 
 returns-3 : tie.Need-returns-3
 returns-3 c = search needs

@@ -29,7 +29,7 @@ returns-2 : tie.Need-returns-2
 unfolding carriedIn longestPlain paddedTo
 returns-2 c =
     let x = c .before .before .signed-6 in
-    sees-behind 6 _ (c .before .before .before .before .before .shared-slice-known .given) DatetimeTz (c .before .before .before .if2 .taken) refl (omega arith) (omega arith) (x .ok) (x .ensures) (c .before .is-beyond .ensures) (c .behind-needed .result) (c .behind-needed .ensures)
+    sees-behind 6 _ (c .before .before .before .before .before .shared-slice-known .given) DatetimeTz (c .before .before .before .if2 .taken) refl (omega arith) (omega arith) (x .ok) (x .ensures) (c .before .is-beyond .ensures) (c .behind-needed .ensures)
 
 signed-5-requires : tie.Need-signed-5-requires
 signed-5-requires c κs = search needs
@@ -41,7 +41,7 @@ returns-3 : tie.Need-returns-3
 unfolding carriedIn longestPlain paddedTo
 returns-3 c =
     let x = c .before .signed-5 in
-    sees-behind 5 _ (c .before .before .before .before .before .shared-slice-known .given) DatetimeTz (c .before .before .if3 .taken) refl (omega arith) (omega arith) (x .ok) (x .ensures) refl (c .behind-needed2 .result) (c .behind-needed2 .ensures)
+    sees-behind 5 _ (c .before .before .before .before .before .shared-slice-known .given) DatetimeTz (c .before .before .if3 .taken) refl (omega arith) (omega arith) (x .ok) (x .ensures) refl (c .behind-needed2 .ensures)
 
 signed-7-requires : tie.Need-signed-7-requires
 signed-7-requires c κs = search needs
@@ -56,7 +56,7 @@ returns-4 : tie.Need-returns-4
 unfolding carriedIn longestPlain paddedTo
 returns-4 c =
     let x = c .before .before .signed-7 in
-    sees-behind 7 _ (c .before .before .before .before .before .before .before .shared-slice-known .given) DatetimeTz (c .before .before .before .if4 .taken) refl (omega arith) (omega arith) (x .ok) (x .ensures) (c .before .is-beyond2 .ensures) (c .behind-needed3 .result) (c .behind-needed3 .ensures)
+    sees-behind 7 _ (c .before .before .before .before .before .before .before .shared-slice-known .given) DatetimeTz (c .before .before .before .if4 .taken) refl (omega arith) (omega arith) (x .ok) (x .ensures) (c .before .is-beyond2 .ensures) (c .behind-needed3 .ensures)
 
 returns-5 : tie.Need-returns-5
 returns-5 c = search needs

@@ -17,7 +17,7 @@ alone-requires c κs = search needs
 returns : tie.Need-returns
 returns c =
     let x = c .before .before .signed-4 in
-    sees-alone 4 _ (c .before .before .before .before .shared-slice-known .given) (c .before .before .before .if1 .taken) (omega arith) (x .ok) (x .ensures) (c .before .is-beyond .ensures) (c .alone .result) (c .alone .ensures) (omega arith)
+    sees-alone 4 _ (c .before .before .before .before .shared-slice-known .given) (c .before .before .before .if1 .taken) (omega arith) (x .ok) (x .ensures) (c .before .is-beyond .ensures) (c .alone .ensures) (omega arith)
 
 signed-3-requires : tie.Need-signed-3-requires
 signed-3-requires c κs = search needs
@@ -31,7 +31,7 @@ alone-requires-2 c κs = search needs
 returns-2 : tie.Need-returns-2
 returns-2 c =
     let x = c .before .before .signed-3 in
-    sees-alone 3 _ (c .before .before .before .before .before .shared-slice-known .given) (c .before .before .before .if2 .taken) (omega arith) (x .ok) (x .ensures) (c .before .is-beyond2 .ensures) (c .alone2 .result) (c .alone2 .ensures) (omega arith)
+    sees-alone 3 _ (c .before .before .before .before .before .shared-slice-known .given) (c .before .before .before .if2 .taken) (omega arith) (x .ok) (x .ensures) (c .before .is-beyond2 .ensures) (c .alone2 .ensures) (omega arith)
 
 returns-3 : tie.Need-returns-3
 returns-3 c = search needs

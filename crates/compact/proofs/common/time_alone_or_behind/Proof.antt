@@ -29,7 +29,7 @@ returns-2 : tie.Need-returns-2
 unfolding carriedIn longestPlain paddedTo
 returns-2 c =
     let x = c .before .before .signed-4 in
-    sees-behind 4 _ (c .before .before .before .before .before .shared-slice-known .given) TimeTz (c .before .before .before .if2 .taken) refl (omega arith) (omega arith) (x .ok) (x .ensures) (c .before .is-beyond .ensures) (c .behind-needed .result) (c .behind-needed .ensures)
+    sees-behind 4 _ (c .before .before .before .before .before .shared-slice-known .given) TimeTz (c .before .before .before .if2 .taken) refl (omega arith) (omega arith) (x .ok) (x .ensures) (c .before .is-beyond .ensures) (c .behind-needed .ensures)
 
 signed-3-requires : tie.Need-signed-3-requires
 signed-3-requires c κs = search needs
@@ -41,7 +41,7 @@ returns-3 : tie.Need-returns-3
 unfolding carriedIn longestPlain paddedTo
 returns-3 c =
     let x = c .before .signed-3 in
-    sees-behind 3 _ (c .before .before .before .before .before .shared-slice-known .given) TimeTz (c .before .before .if3 .taken) refl (omega arith) (omega arith) (x .ok) (x .ensures) refl (c .behind-needed2 .result) (c .behind-needed2 .ensures)
+    sees-behind 3 _ (c .before .before .before .before .before .shared-slice-known .given) TimeTz (c .before .before .if3 .taken) refl (omega arith) (omega arith) (x .ok) (x .ensures) refl (c .behind-needed2 .ensures)
 
 returns-4 : tie.Need-returns-4
 returns-4 c = search needs
