@@ -206,9 +206,9 @@ module _ (s : List ℕ) (at : ℕ) where
   unfolding rowAt
   zone-no-rest n e = rw (zone-fit, row-not twoRow s (at + 1) n e, both-false (either (eqb (getD s at 0) 43) (eqb (getD s at 0) 45)))
 
-  pub zone-done : (h m : ℕ) → either (eqb (getD s at 0) 43) (eqb (getD s at 0) 45) ≡ true → rowAt twoRow s (at + 1) ≡ accepted (h ∷ m ∷ [])
-      → accepted (minusOf (eqb (getD s at 0) 45) ∷ h ∷ m ∷ []) ≡ rowAt (offsetRow true) s at
+  pub zone-done : (b : Bool) (h m : ℕ) → b ≡ eqb (getD s at 0) 45 → either (eqb (getD s at 0) 43) (eqb (getD s at 0) 45) ≡ true
+      → rowAt twoRow s (at + 1) ≡ accepted (h ∷ m ∷ []) → accepted (minusOf b ∷ h ∷ m ∷ []) ≡ rowAt (offsetRow true) s at
   unfolding rowAt
-  zone-done h m e f =
+  zone-done b h m i e f =
       let p = row-got twoRow s (at + 1) _ f in
-      rw (zone-fit, e, p .0, zone-says, p .1, sign-says (getD s at 0) e)
+      rw (i, zone-fit, e, p .0, zone-says, p .1, sign-says (getD s at 0) e)

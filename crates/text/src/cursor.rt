@@ -126,7 +126,7 @@ impl Cursor {
             return Zoned::Refused;
         };
         let zone = Zone {
-            minus: sign == 45,
+            minus: parts::is_minus(sign),
             hours,
             minutes,
         };

@@ -30,6 +30,12 @@ pub fn is_sign(octet: u8) -> bool
     }
 }
 
+pub fn is_minus(octet: u8) -> bool
+    ensures { λ r. ⌜ r ≡ eqb octet 45 ⌝ }
+{
+    octet == 45
+}
+
 impl Clock {
     pub fn new(hour: u32, minute: u32, second: u32, part: u32) -> Clock
         requires { ⌜ (hour ≤ 255) × (minute ≤ 255) × (second ≤ 255) ⌝ }

@@ -31,14 +31,17 @@ enum-told c = search needs
 returns-2 : tie.Need-returns-2
 returns-2 c = (zone-no-rest _ _ 6 (sym (c .before .before .two-pairs .ensures) ∙ ap twoRow (c .enum-told .given .1)), tt)
 
+is-minus-requires : tie.Need-is-minus-requires
+is-minus-requires c κs = search needs
+
 add-t13 : tie.Need-add-t13
 add-t13 c = search needs
 
 returns-3 : tie.Need-returns-3
 returns-3 c =
-    let signed = c .before .before .before .before in
-    let read = zone-done _ _ _ _ (sym (signed .before .is-sign .ensures) ∙ not-false _ (signed .if1 .left)) (sym (c .before .before .before .two-pairs .ensures) ∙ ap twoRow (c .before .hours .given .1)) in
-    (read, refl)
+    let told = c .before in
+    let signed = told .before .before .before .before in
+    (zone-done _ _ _ _ _ (c .is-minus .ensures) (sym (signed .before .is-sign .ensures) ∙ not-false _ (signed .if1 .left)) (sym (told .before .before .before .two-pairs .ensures) ∙ ap twoRow (told .before .hours .given .1)), refl)
 
 pub zone-spec : {M : Type 1} → statement M
 zone-spec =
@@ -52,5 +55,6 @@ zone-spec =
     enum-known-hours
     enum-told
     returns-2
+    is-minus-requires
     add-t13
     returns-3)
