@@ -9,8 +9,8 @@
 --   kindNumber k        the number of a kind, 0 to 5
 --   formNumber f        the number of a form: 0 text, 1 compact, 2 extended
 --   formDigits f        a text's digits, 0 of the others
---   partsOf a           the eight numbers of an answer: kind, form, digits, year, month, day, microseconds, offset. What the kind lacks is 0:
---                       in what is read it is 0 already (`read-owned`, format/proofs/Kept)
+--   numbersOf k f d v   the eight numbers: kind, form's number, digits, year, month, day, microseconds, offset
+--   partsOf a           those of an answer. What the kind lacks is 0: in what is read it is 0 already (`read-owned`, format/proofs/Kept)
 --   partsAfter o lent   the eight numbers after a call: the answer's, or as lent after a refusal
 --   WritesNumbered      the promise of `stamp_write`, by the kind's number, settings and value: the number answered, *count and every octet
 --   Hands o lent r left what is handed over of an outcome: the number answered and all eight parts
@@ -91,11 +91,12 @@ formDigits (text d) = d
 formDigits compact = 0
 formDigits extended = 0
 
-unfoldable pub partsOf : Answer → List ℤ
-partsOf a =
-    pos (kindNumber (a .kind)) ∷ pos (formNumber (a .form)) ∷ pos (formDigits (a .form))
-    ∷ pos (a .value .date .year) ∷ pos (a .value .date .month) ∷ pos (a .value .date .day)
-    ∷ pos (a .value .micros) ∷ a .value .offset ∷ []
+unfoldable pub numbersOf : Kind → ℕ → ℕ → Value → List ℤ
+numbersOf k form digits v =
+    pos (kindNumber k) ∷ pos form ∷ pos digits ∷ pos (v .date .year) ∷ pos (v .date .month) ∷ pos (v .date .day) ∷ pos (v .micros) ∷ v .offset ∷ []
+
+abbrev pub partsOf : Answer → List ℤ
+partsOf a = numbersOf (a .kind) (formNumber (a .form)) (formDigits (a .form)) (a .value)
 
 abbrev pub partsAfter : Outcome Answer → List ℤ → List ℤ
 partsAfter (accepted a) lent = partsOf a

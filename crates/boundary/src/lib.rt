@@ -3,10 +3,10 @@ ghost use mathlib.Core.Path.{_≡_};
 ghost use Prim.Native.Nat.{_≤_};
 ghost use Rattle.format.specs.Values.{endOfDay};
 ghost use Rattle.format.specs.Reading.{read};
-ghost use Rattle.values.specs.Meaning.{kindFrom, formFrom, settingsFrom, valueFrom};
+ghost use Rattle.values.specs.Meaning.{kindFrom, settingsFrom, valueFrom};
 ghost use Rattle.values.specs.Answers.{parsed};
 ghost use Rattle.values.specs.Promise.{Writes};
-ghost use Rattle.boundary.specs.Boundary.{kindNumbered, known, writing, WritesNumbered, readingAs, readingOf, kindNumber, formNumber, formDigits, partsOf, timeFits, Hands, ReadsNumbered};
+ghost use Rattle.boundary.specs.Boundary.{kindNumbered, known, writing, WritesNumbered, readingAs, readingOf, kindNumber, numbersOf, timeFits, Hands, ReadsNumbered};
 use calendar::Date;
 use values::Form;
 use values::Kind;
@@ -110,37 +110,17 @@ fn kind_number(kind: Kind) -> u32
     }
 }
 
-fn form_number(form: Form) -> u32
-    ensures { λ r. ⌜ r ≡ formNumber (formFrom form) ⌝ }
-{
-    match form {
-        Form::Text(_) => 0,
-        Form::Compact => 1,
-        Form::Extended => 2,
-    }
-}
-
-fn form_digits(form: Form) -> u32
-    ensures { λ r. ⌜ r ≡ formDigits (formFrom form) ⌝ }
-{
-    match form {
-        Form::Text(digits) => digits,
-        Form::Compact => 0,
-        Form::Extended => 0,
-    }
-}
-
 // What was read has a time in range, so that its cast keeps it.
-fn put_parts(parts: &mut [i64; 8], kind: Kind, form: Form, value: Value)
+fn put_parts(parts: &mut [i64; 8], kind: Kind, form: u32, digits: u32, value: Value)
     requires { ⌜ value .time .micros ≤ endOfDay ⌝ }
-    ensures { λ _. ⌜ now (parts .exit) ≡ partsOf (record { kind = kindFrom kind; form = formFrom form; value = valueFrom value }) ⌝ }
+    ensures { λ _. ⌜ now (parts .exit) ≡ numbersOf (kindFrom kind) form digits (valueFrom value) ⌝ }
 {
     let date = value.date;
     let time = value.time;
     let offset = value.offset;
     let kind = kind_number(kind) as i64;
-    let digits = form_digits(form) as i64;
-    let form = form_number(form) as i64;
+    let form = form as i64;
+    let digits = digits as i64;
     let year = date.year as i64;
     let month = date.month as i64;
     let day = date.day as i64;
@@ -149,14 +129,18 @@ fn put_parts(parts: &mut [i64; 8], kind: Kind, form: Form, value: Value)
     *parts = [kind, form, digits, year, month, day, micros, minutes];
 }
 
-// What was read, as numbers; after a refusal the parts stay as they are.
+// What was read, as numbers; after a refusal the parts stay as they are. A call for each form, so that no form waits for what another one says.
 fn hand_over(parts: &mut [i64; 8], kind: Kind, found: Parsed) -> u32
     requires { ⌜ timeFits found ⌝ }
     ensures { λ r. ⌜ Hands (parsed (kindFrom kind) found) (now (parts .entry)) r (now (parts .exit)) ⌝ }
 {
     match found {
         Parsed::Stamp(form, value) => {
-            put_parts(parts, kind, form, value);
+            match form {
+                Form::Text(digits) => put_parts(parts, kind, 0, digits, value),
+                Form::Compact => put_parts(parts, kind, 1, 0, value),
+                Form::Extended => put_parts(parts, kind, 2, 0, value),
+            }
             0
         }
         Parsed::Refused(refusal) => refusal.number(),

@@ -3,7 +3,7 @@ use mathlib.Core.Path.{_∙_}
 use mir.Syntax.{w32}
 use mir.Val.{SFits}
 use mir.Facts.{toZ-ofZ, sfits-widen}
-use Rattle.boundary.specs.Boundary.{partsOf}
+use Rattle.boundary.specs.Boundary.{numbersOf}
 use Rattle.boundary.proofs.Parts.{eight-kept}
 use borrow.Author.Needs.{needs, sfits-of}
 use Rattle.boundary.proofs.put_parts.Statement.{statement}
@@ -15,17 +15,11 @@ kind-number-requires c κs = search needs
 cast-kind : tie.Need-cast-kind
 cast-kind c = search needs
 
-form-digits-requires : tie.Need-form-digits-requires
-form-digits-requires c κs = search needs
+cast-form : tie.Need-cast-form
+cast-form c = search needs
 
 cast-digits : tie.Need-cast-digits
 cast-digits c = search needs
-
-form-number-requires : tie.Need-form-number-requires
-form-number-requires c κs = search needs
-
-cast-form : tie.Need-cast-form
-cast-form c = search needs
 
 cast-year : tie.Need-cast-year
 cast-year c = search needs
@@ -41,22 +35,20 @@ cast-micros c = search needs
 
 cast-minutes : tie.Need-cast-minutes
 cast-minutes c =
-    let f : SFits w32 (c .before .before .before .before .before .before .before .before .before .before .before .before .args .value .offset .minutes) = sfits-of (search needs) in
+    let f : SFits w32 (c .before .before .before .before .before .before .before .before .before .before .args .value .offset .minutes) = sfits-of (search needs) in
     rw (toZ-ofZ f) (sfits-widen tt f)
 
 returns : tie.Need-returns
-unfolding partsOf
+unfolding numbersOf
 returns c =
     let y = c .before .before .before .before .before .before in
-    let f = y .before in
-    let d = f .before in
-    let k = d .before in
+    let k = y .before in
     let s = k .before .before .before .before in
     let v = s .args .value in
-    eight-kept _ _ _ (v .date .year) (v .date .month) (v .date .day) (v .time .micros) (v .offset .minutes)
-    (k .kind-number .ok) (f .form-number .ok) (d .form-digits .ok)
+    eight-kept _ (s .args .form) (s .args .digits) (v .date .year) (v .date .month) (v .date .day) (v .time .micros) (v .offset .minutes)
+    (k .kind-number .ok) (search needs) (search needs)
     (y .struct-known .given .0 .fits) (y .struct-known .given .1 .0 .fits) (y .struct-known .given .1 .1 .0 .fits) (s .pre) (sfits-of (search needs))
-    ∙ rw (k .kind-number .ensures, f .form-number .ensures, d .form-digits .ensures)
+    ∙ rw (k .kind-number .ensures)
 
 pub put-parts-spec : {M : Type 1} → statement M
 put-parts-spec =
@@ -64,10 +56,8 @@ put-parts-spec =
     (tie.spec
     kind-number-requires
     cast-kind
-    form-digits-requires
-    cast-digits
-    form-number-requires
     cast-form
+    cast-digits
     cast-year
     cast-month
     cast-day
