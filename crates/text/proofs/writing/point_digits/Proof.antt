@@ -1,7 +1,5 @@
 -- `point_digits` meets its contract: the word law, once each part is two digits. Assumes nothing.
-use mathlib.Core.Path.{refl}
 use native.Mathlib.Omega.{arith}
-use Prim.Native.Nat.{_-_, _*_, _/_}
 use Rattle.text.proofs.PuttingWords.{point-word}
 use borrow.Author.Needs.{needs}
 use Rattle.text.proofs.writing.point_digits.Statement.{statement}
@@ -35,9 +33,7 @@ add-result : tie.Need-add-result
 add-result c = search needs
 
 returns : tie.Need-returns
-returns c =
-    let f = c .before .args .micros in
-    rw (c .fraction-digits .ensures .word) (point-word f (f / 10000) (f / 100 - 100 * (f / 10000)) (f - 100 * (f / 100)) refl (omega arith) (omega arith) (c .before .pre))
+returns c = rw (c .fraction-digits .ensures .word) (point-word (c .before .args .micros) _ _ _ (omega arith) (omega arith) (omega arith) (c .before .pre))
 
 pub point-digits-spec : {M : Type 1} → statement M
 point-digits-spec =

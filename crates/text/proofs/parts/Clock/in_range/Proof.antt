@@ -1,4 +1,5 @@
 -- `Clock::in_range` meets its contract: the tests, in the definition's order. Assumes nothing.
+use mathlib.Core.Path.{refl}
 use native.Mathlib.Omega.{arith}
 use borrow.Author.Tests.{le-leb, lt-leb}
 use Rattle.text.proofs.parts.Clock.in_range.Statement.{statement}
@@ -11,7 +12,7 @@ returns-2 : tie.Need-returns-2
 returns-2 c = let f = c .before .before .args .self in rw (le-leb (f .minute) 59 (omega arith), lt-leb (f .second) 59 (omega arith))
 
 returns-3 : tie.Need-returns-3
-returns-3 c = let f = c .before .before .args .self in rw (le-leb (f .minute) 59 (omega arith), le-leb (f .second) 59 (omega arith))
+returns-3 c = let f = c .before .before .args .self in rw (le-leb (f .minute) 59 (omega arith), le-leb (f .second) 59 (omega arith)) refl
 
 pub in-range-spec : {M : Type 1} → statement M
 in-range-spec = tie.close (tie.spec returns returns-2 returns-3)
