@@ -5,9 +5,9 @@ pub mod Octetwise
 pub mod PairNumbers
 pub mod PairLaws
 pub mod PartLaws
-pub mod Places
 pub mod Wholes
 pub mod Texts
+pub mod Places
 pub mod Answering
 pub mod Lanes
 pub mod Shifting

@@ -1,10 +1,24 @@
--- Where the next cursor stands, from what was answered; and a row that was read at a place known by another name. Assumes nothing.
-use mathlib.Core.Path.{_≡_, sym, _∙_, ap}
-use mathlib.Core.List.{List}
-use Prim.Native.Nat.{ℕ}
-use Rattle.format.specs.Words.{Outcome}
-use Rattle.format.specs.Fields.{Field}
+-- What is known at each place of a text, from what was answered up to there: its length, then the date, the clock, the fraction and the offset,
+-- each read or wrong. Over the kind, the digits and the octets; r is what was answered. Assumes nothing.
+use mathlib.Core.Path.{_≡_, refl, sym, _∙_, ap}
+use mathlib.Core.Bool.{true, false}
+use mathlib.Core.List.{List, [], _∷_}
+use Prim.Native.Nat.{ℕ, _+_, _≤_}
+use native.Mathlib.Nat.{zero-mul}
+use native.Mathlib.Omega.{arith}
+use lib.ListN.{length}
+use Rattle.format.specs.Words.{refused}
+use Rattle.format.specs.Calendar.{Day, noDate}
+use Rattle.format.specs.Values.{Kind, dated, timed, zoned, text}
+use Rattle.format.specs.Fields.{width, fitsAt, saysAt, widths, fit, says}
+use Rattle.format.specs.Text.{dateRow, clockRow, offsetRow}
+use Rattle.format.specs.TextReading.{digitsFound, readText}
+use Rattle.format.specs.Reading.{readAs}
+use Rattle.format.proofs.Fields.{Whole}
 use Rattle.calendar.specs.declared.Date.{Date}
+use Rattle.calendar.specs.Meaning.{dayFrom}
+use Rattle.text.specs.declared.parts.Clock.{Clock}
+use Rattle.text.specs.declared.parts.Zone.{Zone}
 use Rattle.text.specs.declared.cursor.Cursor.{Cursor}
 use Rattle.text.specs.declared.cursor.Dated.{Dated}
 use Rattle.text.specs.declared.cursor.Dated.the-variants as D
@@ -12,22 +26,223 @@ use Rattle.text.specs.declared.cursor.Timed.{Timed}
 use Rattle.text.specs.declared.cursor.Timed.the-variants as T
 use Rattle.text.specs.declared.cursor.Parted.{Parted}
 use Rattle.text.specs.declared.cursor.Parted.the-variants as P
+use Rattle.text.specs.declared.cursor.Zoned.{Zoned}
+use Rattle.text.specs.declared.cursor.Zoned.the-variants as Z
+use Rattle.text.specs.Putting.{fractionField}
 use Rattle.text.specs.Pairs.{rowAt, partAt}
-use Rattle.text.specs.Cursors.{datedTo, timedTo, partedTo}
+use Rattle.text.specs.Parts.{minusOf}
+use Rattle.text.specs.Cursors.{datedRow, timedRow, partedRow, zonedRow, datedTo, timedTo, partedTo, joinedAt}
+use Rattle.text.specs.Outcomes.{outcomeOf}
+use Rattle.text.proofs.Rows.{absent-row}
+use Rattle.text.proofs.PartLaws.{Below100, pairsRow, row-got, row-not, three-small}
+use Rattle.text.proofs.Wholes.{date-width, clock-width, alone-width, no-clock-width, zone-width, joined-whole, not-joined, alone-fit, alone-says, behind-fit, behind-says, part-got, part-not, part-below}
+use Rattle.text.proofs.Texts.{microsOf, text-parts, parts-long, no-date, no-clock, no-joint, no-offset, refused-as, as-long}
 
-module _ (n : ℕ) (c : Cursor) where
-  pub dated-place : (r : Dated) (x : Date) → r ≡ D.Read x c → datedTo n r → c .at ≡ n
-  dated-place r x e t = rw e at t
+-- the answer is that number
+abbrev pub Refuses : Kind → List ℕ → ℕ → Type 0
+Refuses k s n = refused n ≡ readAs k (text (digitsFound k (length s))) s
 
-  pub timed-place : (r : Timed) (h m s : ℕ) → r ≡ T.Read h m s c → timedTo n r → c .at ≡ n
-  timed-place r h m s e t = rw e at t
+-- the text is as long as one with d fraction digits
+pub record Opened (k : Kind) (d : ℕ) (s : List ℕ) : Type 0 where
+  pub found : d ≡ digitsFound k (length s)
+  pub few : d ≤ 6
 
-  pub parted-place : (r : Parted) (u : ℕ) → r ≡ P.Read u c → partedTo n r → c .at ≡ n
-  parted-place r u e t = rw e at t
+-- the date is read, where the kind has one, and the `T` behind it: at a is the clock
+pub record Front (k : Kind) (d : ℕ) (s : List ℕ) (x : Day) (a : ℕ) : Type 0 where
+  pub opened : Opened k d s
+  pub behind : ℕ
+  pub date : Whole (dateRow (dated k)) s 0 (x .year ∷ x .month ∷ x .day ∷ []) behind
+  pub fits : fit (clockRow (timed k) (dated k) d) s behind ≡ fit (clockRow true false d) s a
+  pub says : says (clockRow (timed k) (dated k) d) s behind ≡ says (clockRow true false d) s a
+  pub next : a + 8 + width (fractionField d) ≡ behind + widths (clockRow (timed k) (dated k) d)
 
-module _ (s : List ℕ) (p q : ℕ) (e : p ≡ q) (o : Outcome (List ℕ)) where
-  pub row-there : (fs : List Field) → rowAt fs s p ≡ o → rowAt fs s q ≡ o
-  row-there fs h = sym (ap (rowAt fs s) e) ∙ h
+-- hour, minute and second too: at a is the fraction
+pub record Paired (k : Kind) (d : ℕ) (s : List ℕ) (x : Day) (h m n a : ℕ) : Type 0 where
+  pub opened : Opened k d s
+  pub behind : ℕ
+  pub date : Whole (dateRow (dated k)) s 0 (x .year ∷ x .month ∷ x .day ∷ []) behind
+  pub small : Below100 h m n
+  pub fits : fit (clockRow (timed k) (dated k) d) s behind ≡ fitsAt (fractionField d) s a
+  pub says : says (clockRow (timed k) (dated k) d) s behind ≡ h ∷ m ∷ n ∷ saysAt (fractionField d) s a ∷ []
+  pub next : a + width (fractionField d) ≡ behind + widths (clockRow (timed k) (dated k) d)
 
-  pub part-there : (d : ℕ) → partAt d s p ≡ o → partAt d s q ≡ o
-  part-there d h = sym (ap (partAt d s) e) ∙ h
+-- all that stands before the offset: at a is the offset, where the kind has one
+pub record Rear (k : Kind) (d : ℕ) (s : List ℕ) (x : Day) (t : Clock) (a : ℕ) : Type 0 where
+  pub opened : Opened k d s
+  pub next : a ≡ widths (dateRow (dated k)) + widths (clockRow (timed k) (dated k) d)
+  pub reads : (z : Zone) → Whole (offsetRow (zoned k)) s a (minusOf (z .minus) ∷ z .hours ∷ z .minutes ∷ []) (a + widths (offsetRow (zoned k)))
+      → readText k d s ≡ outcomeOf k x (t .minute) (t .second) (t .micros) z
+
+-- every octet is right: reading comes to what the numbers say
+pub record Said (k : Kind) (d : ℕ) (s : List ℕ) (x : Day) (t : Clock) (z : Zone) : Type 0 where
+  pub opened : Opened k d s
+  pub read : readText k d s ≡ outcomeOf k x (t .minute) (t .second) (t .micros) z
+
+-- what stands for a time and for an offset that a kind has not
+abbrev pub noClock : Clock
+noClock = record { minute = 0; second = 0; micros = 0 }
+
+abbrev pub noZone : Zone
+noZone = record { minus = false; hours = 0; minutes = 0 }
+
+-- what is known behind each part: these take the facts, so that no proof has to name the numbers
+module _ {k : Kind} {d : ℕ} {s : List ℕ} where
+  module _ (o : Opened k d s) {r : Dated} {x : Date} {c : Cursor} (e : r ≡ D.Read x c) where
+    abbrev pub AfterDate : Type 0
+    AfterDate = Rear k d s (dayFrom x) noClock (c .at)
+
+    abbrev pub AfterJoint : Type 0
+    AfterJoint = Front k d s (dayFrom x) (c .at)
+
+  module _ {x : Day} {a : ℕ} where
+    abbrev pub AfterClock : Front k d s x a → {r : Timed} {h m n : ℕ} {c : Cursor} → r ≡ T.Read h m n c → Type 0
+    AfterClock f {h = h} {m = m} {n = n} {c = c} e = Paired k d s x h m n (c .at)
+
+    abbrev pub AfterPart : {h m n : ℕ} → Paired k d s x h m n a → {r : Parted} {u : ℕ} {c : Cursor} → r ≡ P.Read u c → Type 0
+    AfterPart {h} {m} {n} f {u = u} {c = c} e = Rear k d s x (record { minute = m; second = n; micros = microsOf h m n u }) (c .at)
+
+    abbrev pub AfterAll : {t : Clock} → Rear k d s x t a → Clock → Zone → Type 0
+    AfterAll f t z = Said k d s x t z
+
+module _ {k : Kind} {d : ℕ} {s : List ℕ} (o : Opened k d s) where
+  long : length s ≡ widths (dateRow (dated k)) + (widths (clockRow (timed k) (dated k) d) + widths (offsetRow (zoned k)))
+  long = as-long k d s (o .found) (o .few) ∙ parts-long k d
+
+  pub refuses : (n : ℕ) → readText k d s ≡ refused n → Refuses k s n
+  refuses n h = refused-as k d s (o .found) n h
+
+  -- ---- the date
+
+  pub date-wrong : {r : Dated} → r ≡ D.Refused → datedRow r ≡ rowAt (dateRow (dated k)) s 0 → Refuses k s 6
+  date-wrong e h = refuses 6 (no-date k d s (o .few) (row-not (dateRow (dated k)) s 0 6 (sym h ∙ ap datedRow e)))
+
+  module _ (b : dated k ≡ true) where
+    ten : widths (dateRow (dated k)) ≡ 10
+    ten = rw b date-width
+
+    pub date-room : 10 ≤ length s
+    date-room = omega (arith, ten, long)
+
+    pub date-read : timed k ≡ false → {r : Dated} {x : Date} {c : Cursor} (e : r ≡ D.Read x c) → (datedRow r ≡ rowAt (dateRow (dated k)) s 0) × datedTo 10 r → AfterDate o e
+    date-read t {x = x} {c = c} e h =
+        let place : c .at ≡ 10 = rw e at (h .1) in
+        let p = row-got (dateRow (dated k)) s 0 _ (sym (h .0) ∙ ap datedRow e) in
+        let none : widths (clockRow (timed k) (dated k) d) ≡ 0 = rw t (no-clock-width (dated k) d) in
+        record {
+          opened = o;
+          next = omega (arith, place, ten, none);
+          reads = λ z w. text-parts k d s (o .few) (dayFrom x) 0 0 0 0 0 (c .at) (c .at) _ z (record { fits = p .0; says = p .1; next = omega (arith, place, ten) })
+              (rw t (absent-row 4 s (c .at))) w (sym (zero-mul _)) (omega arith);
+        }
+
+  -- a date with a `T`
+  module _ (b : dated k ≡ true) (t : timed k ≡ true) where
+    pub joined-room : 11 ≤ length s
+    joined-room =
+        let f : widths (clockRow (timed k) (dated k) d) ≡ 9 + width (fractionField d) = rw (b, t) (clock-width d) in
+        omega (arith, ten b, f, long)
+
+    pub joined-wrong : {r : Dated} → r ≡ D.Refused → datedRow r ≡ joinedAt s 0 → Refuses k s 6
+    joined-wrong e h = refuses 6 (no-joint k d s (o .few) 10 (sym (ten b)) (rw (b, t) (not-joined d s 6 (sym h ∙ ap datedRow e))))
+
+    pub joined-read : {r : Dated} {x : Date} {c : Cursor} (e : r ≡ D.Read x c) → (datedRow r ≡ joinedAt s 0) × datedTo 11 r → AfterJoint o e
+    joined-read {x = x} {c = c} e h =
+        let place : c .at ≡ 11 = rw e at (h .1) in
+        let w = joined-whole s _ (sym (h .0) ∙ ap datedRow e) in
+        record {
+          opened = o;
+          behind = 10;
+          date = rw b (w .date);
+          fits = rw (b, t, place, behind-fit d s, w .mark);
+          says = rw (b, t, place, behind-says d s);
+          next = rw (b, t) (omega (arith, place, clock-width d));
+        }
+
+  -- no date
+  pub alone : dated k ≡ false → timed k ≡ true → Front k d s noDate 0
+  alone b t =
+      record {
+        opened = o;
+        behind = 0;
+        date = rw b (absent-row 3 s 0);
+        fits = rw (b, t);
+        says = rw (b, t);
+        next = rw (b, t) (omega (arith, alone-width d));
+      }
+
+-- ---- the clock
+
+module _ {k : Kind} {d : ℕ} {s : List ℕ} {x : Day} {a : ℕ} (f : Front k d s x a) where
+  pub clock-room : a + 8 ≤ length s
+  clock-room = omega (arith, f .next, f .date .next, long (f .opened))
+
+  pub clock-wrong : {r : Timed} → r ≡ T.Refused → timedRow r ≡ rowAt (pairsRow 58) s a → Refuses k s 6
+  clock-wrong e h =
+      refuses (f .opened) 6
+      (no-clock k d s (f .opened .few) (f .behind) (omega (arith, f .date .next)) (f .fits ∙ rw (alone-fit d s a, row-not (pairsRow 58) s a 6 (sym h ∙ ap timedRow e))))
+
+  pub clock-read : {r : Timed} {h m n : ℕ} {c : Cursor} (e : r ≡ T.Read h m n c) → (timedRow r ≡ rowAt (pairsRow 58) s a) × timedTo (a + 8) r → AfterClock f e
+  clock-read {h = h} {m = m} {n = n} {c = c} e g =
+      let place : c .at ≡ a + 8 = rw e at (g .1) in
+      let row = sym (g .0) ∙ ap timedRow e in
+      let p = row-got (pairsRow 58) s a _ row in
+      record {
+        opened = f .opened;
+        behind = f .behind;
+        date = f .date;
+        small = three-small 58 s a h m n row;
+        fits = f .fits ∙ rw (alone-fit d s a, p .0, place);
+        says = f .says ∙ rw (alone-says d s a, p .1, place);
+        next = omega (arith, place, f .next);
+      }
+
+-- ---- the fraction
+
+module _ {k : Kind} {d : ℕ} {s : List ℕ} {x : Day} {h m n a : ℕ} (f : Paired k d s x h m n a) where
+  pub clock-small : (h ≤ 255) × (m ≤ 255) × (n ≤ 255)
+  clock-small = (omega (arith, f .small .first), omega (arith, f .small .second), omega (arith, f .small .third))
+
+  pub part-room : (a + width (fractionField d) ≤ length s) × (d ≤ 6)
+  part-room = (omega (arith, f .next, f .date .next, long (f .opened)), f .opened .few)
+
+  pub part-wrong : {r : Parted} → r ≡ P.Refused → partedRow r ≡ partAt d s a → Refuses k s 6
+  part-wrong e g =
+      refuses (f .opened) 6 (no-clock k d s (f .opened .few) (f .behind) (omega (arith, f .date .next)) (f .fits ∙ part-not d s a 6 (sym g ∙ ap partedRow e)))
+
+  pub part-read : {r : Parted} {u : ℕ} {c : Cursor} (e : r ≡ P.Read u c) → (partedRow r ≡ partAt d s a) × partedTo (a + width (fractionField d)) r → AfterPart f e
+  part-read {u = u} {c = c} e g =
+      let place : c .at ≡ a + width (fractionField d) = rw e at (g .1) in
+      let q = part-got d s a u (sym (g .0) ∙ ap partedRow e) in
+      record {
+        opened = f .opened;
+        next = omega (arith, place, f .next, f .date .next);
+        reads = λ z w. text-parts k d s (f .opened .few) x h m n (saysAt (fractionField d) s a) u (f .behind) (c .at) _ z (f .date)
+            (record { fits = f .fits ∙ q .0; says = f .says; next = omega (arith, place, f .next) }) w (q .1) (rw (q .1) (part-below d s a (f .opened .few) (q .0)));
+      }
+
+-- ---- the offset
+
+module _ {k : Kind} {d : ℕ} {s : List ℕ} {x : Day} {t : Clock} {a : ℕ} (f : Rear k d s x t a) where
+  pub zone-room : zoned k ≡ true → a + 6 ≤ length s
+  zone-room z =
+      let e : widths (offsetRow (zoned k)) ≡ 6 = rw z zone-width in
+      omega (arith, e, f .next, long (f .opened))
+
+  pub zone-wrong : {r : Zoned} → r ≡ Z.Refused → zonedRow r ≡ rowAt (offsetRow (zoned k)) s a → Refuses k s 6
+  zone-wrong e h =
+      refuses (f .opened) 6 (no-offset k d s (f .opened .few) a (f .next) (row-not (offsetRow (zoned k)) s a 6 (sym h ∙ ap zonedRow e)))
+
+  -- v is the clock that was made of the numbers
+  module _ {v : Clock} (made : v ≡ t) where
+    with-clock : {z : Zone} → Said k d s x t z → Said k d s x v z
+    with-clock w = rw made w
+
+    pub zone-read : {r : Zoned} {z : Zone} {c : Cursor} → r ≡ Z.Read z c → zonedRow r ≡ rowAt (offsetRow (zoned k)) s a → AfterAll f v z
+    zone-read {z = z} e h =
+        let p = row-got (offsetRow (zoned k)) s a _ (sym h ∙ ap zonedRow e) in
+        with-clock (record { opened = f .opened; read = f .reads z (record { fits = p .0; says = p .1; next = refl }) })
+
+    pub unzoned : zoned k ≡ false → AfterAll f v noZone
+    unzoned z =
+        let w = absent-row 3 s a in
+        with-clock (record { opened = f .opened; read = f .reads noZone (record { fits = rw z (w .fits); says = rw z (w .says); next = refl }) })

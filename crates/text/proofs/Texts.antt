@@ -19,7 +19,7 @@ use Rattle.format.specs.TextReading.{digitsFound, minusZero, clockInRange, numb
 use Rattle.format.specs.Reading.{readIn, readAs}
 use Rattle.format.proofs.Cases.{both-false, lt-or-le, eq-or-ne}
 use Rattle.format.proofs.Clock.{seven}
-use Rattle.format.proofs.Fields.{Whole, fit-append}
+use Rattle.format.proofs.Fields.{Whole, widths-append, fit-append}
 use Rattle.format.proofs.Choosing.{found-fits}
 use Rattle.text.specs.declared.parts.Zone.{Zone}
 use Rattle.text.specs.Parts.{minusOf, offsetOf}
@@ -81,16 +81,17 @@ unfolding fractionUnit
 unit-some = seven (λ d. 0 < 10 ^ (6 - d)) (omega arith) (omega arith) (omega arith) (omega arith) (omega arith) (omega arith) (omega arith)
 
 module _ (k : Kind) (d : ℕ) (s : List ℕ) (l : d ≤ 6) where
-  pub text-parts : (x : Day) (h m n f p q r : ℕ) (z : Zone)
+  -- u is the fraction f in microseconds
+  pub text-parts : (x : Day) (h m n f u p q r : ℕ) (z : Zone)
       → Whole (dateRow (dated k)) s 0 (x .year ∷ x .month ∷ x .day ∷ []) p
       → Whole (clockRow (timed k) (dated k) d) s p (h ∷ m ∷ n ∷ f ∷ []) q
       → Whole (offsetRow (zoned k)) s q (minusOf (z .minus) ∷ z .hours ∷ z .minutes ∷ []) r
-      → f * fractionUnit d < 1000000
-      → readText k d s ≡ outcomeOf k x m n (microsOf h m n (f * fractionUnit d)) z
+      → u ≡ f * fractionUnit d → u < 1000000
+      → readText k d s ≡ outcomeOf k x m n (microsOf h m n u) z
   unfolding readText readFields layout outcomeOf numbersInRange clockInRange minusZero textValue offsetOf
-  text-parts x h m n f p q r z a b c t =
+  text-parts x h m n f u p q r z a b c e t =
       let w = joined _ _ s 0 _ _ p r a (joined _ _ s p _ _ q r b c) in
-      rw (le-leb d 6 l, w .fits, w .says, minus-one (z .minus), minus-sign (z .minus), clock-fits h m n f (fractionUnit d) t (unit-some d l))
+      rw (le-leb d 6 l, w .fits, w .says, minus-one (z .minus), minus-sign (z .minus), e, clock-fits h m n f (fractionUnit d) (rw e at t) (unit-some d l))
 
   layout-fit : fit (layout k d) s 0
       ≡ both (fit (dateRow (dated k)) s 0) (both (fit (clockRow (timed k) (dated k) d) s (widths (dateRow (dated k))))
@@ -124,32 +125,37 @@ module _ (k : Kind) (d : ℕ) (s : List ℕ) (l : d ≤ 6) where
       let c = fit (clockRow (timed k) (dated k) d) s (widths (dateRow (dated k))) in
       unfit (layout-fit ∙ rw (rw h at e, both-false c) (both-false (fit (dateRow (dated k)) s 0)))
 
+pub parts-long : (k : Kind) (d : ℕ) → textLength k d ≡ widths (dateRow (dated k)) + (widths (clockRow (timed k) (dated k) d) + widths (offsetRow (zoned k)))
+unfolding textLength layout
+parts-long k d =
+    omega (arith, widths-append (dateRow (dated k)) (clockRow (timed k) (dated k) d ++ offsetRow (zoned k)), widths-append (clockRow (timed k) (dated k) d) (offsetRow (zoned k)))
+
 -- ---- 7, 8 and the value
 
+abbrev pub redundant : Zone → Bool
+redundant z = both (z .minus) (both (eqb (z .hours) 0) (eqb (z .minutes) 0))
+
+abbrev pub zoneFits : Zone → Bool
+zoneFits z = both (leb (z .hours) 23) (leb (z .minutes) 59)
+
 module _ (k : Kind) (x : Day) (m n u : ℕ) (z : Zone) where
-  abbrev redundant : Bool
-  redundant = both (z .minus) (both (eqb (z .hours) 0) (eqb (z .minutes) 0))
-
-  abbrev zoneFits : Bool
-  zoneFits = both (leb (z .hours) 23) (leb (z .minutes) 59)
-
-  pub is-redundant : redundant ≡ true → outcomeOf k x m n u z ≡ refused 7
+  pub redundant-outcome : redundant z ≡ true → outcomeOf k x m n u z ≡ refused 7
   unfolding outcomeOf
-  is-redundant e = rw e
+  redundant-outcome e = rw e
 
-  pub no-day : redundant ≡ false → needs (dated k) (isDay x) ≡ false → outcomeOf k x m n u z ≡ refused 8
+  pub no-day-outcome : redundant z ≡ false → needs (dated k) (isDay x) ≡ false → outcomeOf k x m n u z ≡ refused 8
   unfolding outcomeOf
-  no-day e f = rw (e, f)
+  no-day-outcome e f = rw (e, f)
 
-  pub no-time : redundant ≡ false → clockFits m n u ≡ false → outcomeOf k x m n u z ≡ refused 8
+  pub no-time-outcome : redundant z ≡ false → clockFits m n u ≡ false → outcomeOf k x m n u z ≡ refused 8
   unfolding outcomeOf
-  no-time e f = rw (e, f, both-false (needs (dated k) (isDay x)))
+  no-time-outcome e f = rw (e, f, both-false (needs (dated k) (isDay x)))
 
-  pub no-zone : redundant ≡ false → zoneFits ≡ false → outcomeOf k x m n u z ≡ refused 8
+  pub no-zone-outcome : redundant z ≡ false → zoneFits z ≡ false → outcomeOf k x m n u z ≡ refused 8
   unfolding outcomeOf
-  no-zone e f = rw (e, f, both-false (clockFits m n u), both-false (needs (dated k) (isDay x)))
+  no-zone-outcome e f = rw (e, f, both-false (clockFits m n u), both-false (needs (dated k) (isDay x)))
 
-  pub all-fits : redundant ≡ false → needs (dated k) (isDay x) ≡ true → clockFits m n u ≡ true → zoneFits ≡ true
+  pub all-fits : redundant z ≡ false → needs (dated k) (isDay x) ≡ true → clockFits m n u ≡ true → zoneFits z ≡ true
       → outcomeOf k x m n u z ≡ accepted (record { date = x; micros = u; offset = offsetOf z })
   unfolding outcomeOf
   all-fits e f g h = rw (e, f, g, h)

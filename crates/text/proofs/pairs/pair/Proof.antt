@@ -1,5 +1,5 @@
 -- `pair` meets its contract: the word's test tells of its two octets. Assumes nothing.
-use mathlib.Core.Path.{_≡_, sym, _∙_}
+use mathlib.Core.Path.{sym, _∙_}
 use native.Mathlib.Omega.{arith}
 use lib.Bits.{bitXor}
 use denote.Ref.{now}

@@ -1,77 +1,37 @@
--- `read_datetime` meets its contract: each part that was read tells of its row, and each test of the refusal that it stands for. Assumes nothing.
-use mathlib.Core.Path.{_≡_, refl, sym, _∙_, ap}
-use mathlib.Core.List.{List, [], _∷_}
-use Prim.Native.Nat.{ℕ, _+_, _≤_}
-use native.Mathlib.Omega.{arith}
-use lib.ListN.{length}
+-- `read_datetime` meets its contract: each part that was read tells what is known behind it, and each test of the refusal that it stands for. Assumes nothing.
+use mathlib.Core.Path.{refl}
 use denote.Ref.{now}
-use Rattle.format.specs.Words.{accepted, refused}
-use Rattle.format.specs.Values.{Datetime, text}
-use Rattle.format.specs.Fields.{width}
-use Rattle.format.specs.TextReading.{digitsFound, readText}
-use Rattle.format.specs.Reading.{readAs}
-use Rattle.format.proofs.Cases.{not-true, not-false}
-use Rattle.calendar.specs.declared.Date.{Date as DateType}
-use Rattle.calendar.specs.Meaning.{dayFrom}
-use Rattle.text.specs.Putting.{fractionField}
-use Rattle.text.specs.Pairs.{rowAt, partAt}
-use Rattle.text.specs.Cursors.{joinedAt, datedRow, timedRow, partedRow}
-use Rattle.text.specs.Outcomes.{outcomeOf}
-use Rattle.text.proofs.PartLaws.{pairsRow, three-small}
-use Rattle.text.specs.declared.cursor.Cursor.{Cursor}
-use Rattle.text.proofs.Places.{dated-place, timed-place, row-there, part-there}
-use Rattle.text.proofs.Wholes.{datetime-room, date-width, not-joined, behind-no-pairs, behind-no-part}
-use Rattle.text.proofs.Texts.{microsOf, no-clock, no-joint, no-day, no-time, all-fits, refused-as, too-many, as-long}
-use Rattle.text.proofs.Answering.{noZone, datetime-read, clock-says, clock-micros, time-micros, no-minutes, stamped}
+use Rattle.format.specs.Values.{Datetime}
+use Rattle.text.proofs.Texts.{too-many}
+use Rattle.text.proofs.Places.{Opened, AfterJoint, AfterClock, AfterPart, AfterAll, noZone, joined-room, joined-wrong, joined-read, clock-room, clock-wrong, clock-read, clock-small, part-room, part-wrong, part-read, unzoned}
+use Rattle.text.proofs.Answering.{passes, unsigned, no-day, no-time, stamped, no-minutes}
 use borrow.Author.Needs.{needs}
 use Rattle.text.proofs.reading.read_datetime.Statement.{statement}
 use Rattle.text.proofs.reading.read_datetime.Tie as tie
+
+opened : (c : tie.Else1) → Opened Datetime (c .before .digits-in .result) (now (c .before .before .before .args .s))
+opened c = record { found = c .before .digits-in .ensures; few = c .if1 .left }
+
+front : (c : tie.After-known-told) → AfterJoint (opened (c .before .before .before .before)) (c .before .date .given .1)
+front c = joined-read (opened (c .before .before .before .before)) refl refl (c .before .date .given .1) (c .before .before .before .joined-date .ensures)
+
+paired : (c : tie.After-known-told2) → AfterClock (front (c .before .before .before .before)) (c .before .hour .given .1)
+paired c = clock-read (front (c .before .before .before .before)) (c .before .hour .given .1) (c .before .before .before .clock .ensures)
+
+rear : (c : tie.After-known-told3) → AfterPart (paired (c .before .before .before .before)) (c .before .part .given .1)
+rear c = part-read (paired (c .before .before .before .before)) (c .before .part .given .1) (c .before .before .before .fraction .ensures)
+
+said : (c : tie.After-new) → AfterAll (rear (c .before)) (c .new .result) noZone
+said c = unzoned (rear (c .before)) (c .new .ensures) refl
 
 digits-in-requires : tie.Need-digits-in-requires
 digits-in-requires c κs = search needs
 
 returns : tie.Need-returns
-returns c =
-    too-many Datetime (c .before .digits-in .result) (now (c .before .before .before .args .s)) (c .before .digits-in .ensures) (c .if1 .taken)
-
-abbrev octets : tie.Else1 → List ℕ
-octets c =
-    now (c .before .before .before .args .s)
-
-abbrev count : tie.Else1 → ℕ
-count c = c .before .digits-in .result
-
-few : (c : tie.Else1) → count c ≤ 6
-few c = c .if1 .left
-
-found : (c : tie.Else1) → count c ≡ digitsFound Datetime (length (octets c))
-found c = c .before .digits-in .ensures
-
-space : (c : tie.Else1) → length (octets c) ≡ 19 + width (fractionField (count c))
-space c = as-long Datetime (count c) (octets c) (found c) (few c) ∙ datetime-room (count c)
-
--- a text that is refused
-wrong : (c : tie.Else1) (n : ℕ) → readText Datetime (count c) (octets c) ≡ refused n → refused n ≡ readAs Datetime (text (digitsFound Datetime (length (octets c)))) (octets c)
-wrong c n h = refused-as Datetime (count c) (octets c) (found c) n h
-
--- from behind a field back to the beginning, and to the field before it
-abbrev text1 : tie.After-known-told → tie.Else1
-text1 c = c .before .before .before .before
-
-abbrev at-date : tie.After-known-told2 → tie.After-known-told
-at-date c = c .before .before .before .before
-
-abbrev text2 : tie.After-known-told2 → tie.Else1
-text2 c = text1 (at-date c)
-
-abbrev at-clock : tie.After-known-told3 → tie.After-known-told2
-at-clock c = c .before .before .before .before
-
-abbrev text3 : tie.After-known-told3 → tie.Else1
-text3 c = text2 (at-clock c)
+returns c = too-many Datetime _ (now (c .before .before .before .args .s)) (c .before .digits-in .ensures) (c .if1 .taken)
 
 joined-date-requires : tie.Need-joined-date-requires
-joined-date-requires c κs = omega (arith, space c)
+joined-date-requires c κs = joined-room (opened c) refl refl
 
 enum-known-date : tie.Need-enum-known-date
 enum-known-date c = search needs
@@ -80,26 +40,10 @@ enum-told : tie.Need-enum-told
 enum-told c = search needs
 
 returns-2 : tie.Need-returns-2
-returns-2 c =
-    let opened = c .before .before .before in
-    wrong opened 6 (no-joint Datetime (count opened) (octets opened) (few opened) 10 (sym date-width) (not-joined (count opened) (octets opened) 6 (sym (c .before .before .joined-date .ensures .0) ∙ ap datedRow (c .enum-told .given .1))))
-
-abbrev date : tie.After-known-told → DateType
-date c = c .before .date .given .0 .0
-
-dates : (c : tie.After-known-told) → joinedAt (octets (text1 c)) 0 ≡ accepted (date c .year ∷ date c .month ∷ date c .day ∷ [])
-dates c = sym (c .before .before .before .joined-date .ensures .0) ∙ ap datedRow (c .before .date .given .1)
-
-abbrev past-date : tie.After-known-told → Cursor
-past-date c = c .before .date .given .0 .1 .0
-
-past-date-at : (c : tie.After-known-told) → past-date c .at ≡ 11
-past-date-at c = dated-place 11 (past-date c) _ (date c) (c .before .date .given .1) (c .before .before .before .joined-date .ensures .1)
+returns-2 c = joined-wrong (opened (c .before .before .before)) refl refl (c .enum-told .given .1) (c .before .before .joined-date .ensures .0)
 
 clock-requires : tie.Need-clock-requires
-clock-requires c κs =
-    let opened = text1 c in
-    omega (arith, space opened, past-date-at c)
+clock-requires c κs = clock-room (front c)
 
 enum-known-hour : tie.Need-enum-known-hour
 enum-known-hour c = search needs
@@ -108,35 +52,10 @@ enum-told-2 : tie.Need-enum-told-2
 enum-told-2 c = search needs
 
 returns-3 : tie.Need-returns-3
-returns-3 c =
-    let got = c .before .before .before in
-    let opened = text1 got in
-    wrong opened 6 (no-clock Datetime (count opened) (octets opened) (few opened) 10 (sym date-width) (behind-no-pairs (count opened) (octets opened) 6 (row-there _ _ _ (past-date-at got) _ _ (sym (c .before .before .clock .ensures .0) ∙ ap timedRow (c .enum-told2 .given .1)))))
-
-abbrev hour : tie.After-known-told2 → ℕ
-hour c = c .before .hour .given .0 .0
-
-abbrev minute : tie.After-known-told2 → ℕ
-minute c = c .before .hour .given .0 .1 .0
-
-abbrev second : tie.After-known-told2 → ℕ
-second c = c .before .hour .given .0 .1 .1 .0
-
-times : (c : tie.After-known-told2) → rowAt (pairsRow 58) (octets (text2 c)) 11 ≡ accepted (hour c ∷ minute c ∷ second c ∷ [])
-times c = row-there _ _ _ (past-date-at (at-date c)) _ _ (sym (c .before .before .before .clock .ensures .0) ∙ ap timedRow (c .before .hour .given .1))
-
-abbrev past-clock : tie.After-known-told2 → Cursor
-past-clock c = c .before .hour .given .0 .1 .1 .1 .0
-
-past-clock-at : (c : tie.After-known-told2) → past-clock c .at ≡ 19
-past-clock-at c =
-    let e : past-clock c .at ≡ past-date (at-date c) .at + 8 = timed-place _ (past-clock c) _ _ _ _ (c .before .hour .given .1) (c .before .before .before .clock .ensures .1) in
-    omega (arith, e, past-date-at (at-date c))
+returns-3 c = clock-wrong (front (c .before .before .before)) (c .enum-told2 .given .1) (c .before .before .clock .ensures .0)
 
 fraction-requires : tie.Need-fraction-requires
-fraction-requires c κs =
-    let opened = text2 c in
-    (omega (arith, space opened, past-clock-at c), few opened)
+fraction-requires c κs = part-room (paired c)
 
 enum-known-part : tie.Need-enum-known-part
 enum-known-part c = search needs
@@ -145,46 +64,22 @@ enum-told-3 : tie.Need-enum-told-3
 enum-told-3 c = search needs
 
 returns-4 : tie.Need-returns-4
-returns-4 c =
-    let got = c .before .before .before in
-    let opened = text2 got in
-    wrong opened 6 (no-clock Datetime (count opened) (octets opened) (few opened) 10 (sym date-width) (behind-no-part (count opened) (octets opened) 6 (part-there _ _ _ (past-clock-at got) _ _ (sym (c .before .before .fraction .ensures .0) ∙ ap partedRow (c .enum-told3 .given .1)))))
-
-abbrev part : tie.After-known-told3 → ℕ
-part c = c .before .part .given .0 .0
-
-fractions : (c : tie.After-known-told3) → partAt (count (text3 c)) (octets (text3 c)) 19 ≡ accepted (part c ∷ [])
-fractions c = part-there _ _ _ (past-clock-at (at-clock c)) _ _ (sym (c .before .before .before .fraction .ensures .0) ∙ ap partedRow (c .before .part .given .1))
-
-abbrev micros : tie.After-known-told3 → ℕ
-micros c = microsOf (hour (at-clock c)) (minute (at-clock c)) (second (at-clock c)) (part c)
-
--- the text, once every octet is right
-read : (c : tie.After-known-told3) → readText Datetime (count (text3 c)) (octets (text3 c)) ≡ outcomeOf Datetime (dayFrom (date (at-date (at-clock c)))) (minute (at-clock c)) (second (at-clock c)) (micros c) noZone
-read c = datetime-read (count (text3 c)) (octets (text3 c)) (few (text3 c)) _ _ _ _ (dayFrom (date (at-date (at-clock c)))) (dates (at-date (at-clock c))) (times (at-clock c)) (fractions c)
+returns-4 c = part-wrong (paired (c .before .before .before)) (c .enum-told3 .given .1) (c .before .before .fraction .ensures .0)
 
 new-requires : tie.Need-new-requires
-new-requires c κs =
-    let said = c .before .before .before .before in
-    let b = three-small _ _ _ _ _ _ (times said) in (omega (arith, b .first), omega (arith, b .second), omega (arith, b .third))
+new-requires c κs = clock-small (paired (c .before .before .before .before))
 
 in-range-requires : tie.Need-in-range-requires
 in-range-requires c κs = search needs
 
 returns-5 : tie.Need-returns-5
-returns-5 c =
-    let said = c .before .before .before in
-    let opened = text3 said in
-    wrong opened 8 (read said ∙ no-day _ _ _ _ _ _ refl (sym (c .before .in-range .ensures) ∙ not-true _ (c .if2 .taken)))
+returns-5 c = no-day (unsigned (said (c .before .before))) (c .before .in-range .ensures) (c .if2 .taken)
 
 in-range-requires-2 : tie.Need-in-range-requires-2
 in-range-requires-2 c κs = search needs
 
 returns-6 : tie.Need-returns-6
-returns-6 c =
-    let said = c .before .before .before .before .before in
-    let opened = text3 said in
-    wrong opened 8 (read said ∙ no-time _ _ _ _ _ _ refl (clock-says _ _ _ _ (c .before .before .before .before .new .ensures) ∙ sym (c .before .in-range2 .ensures) ∙ not-true _ (c .if3 .taken)))
+returns-6 c = no-time (unsigned (said (c .before .before .before .before))) (c .before .in-range2 .ensures) (c .if3 .taken)
 
 new-requires-2 : tie.Need-new-requires-2
 new-requires-2 c κs = search needs
@@ -194,11 +89,9 @@ new-requires-3 c κs = search needs
 
 returns-7 : tie.Need-returns-7
 returns-7 c =
-    let test3 = c .before .before in
-    let test2 = test3 .before .before in
-    let said = test2 .before .before .before in
-    let opened = text3 said in
-    stamped Datetime (count opened) (octets opened) (found opened) _ _ _ _ (micros said) _ refl (time-micros _ _ (c .before .new2 .ensures) ∙ clock-micros _ _ _ (micros said) (test2 .before .before .new .ensures)) (no-minutes _ (c .new3 .ensures)) (read said ∙ all-fits _ _ _ _ _ _ refl (sym (test2 .before .in-range .ensures) ∙ not-false _ (test2 .if2 .left)) (clock-says _ _ _ (micros said) (test2 .before .before .new .ensures) ∙ sym (test3 .before .in-range2 .ensures) ∙ not-false _ (test3 .if3 .left)) refl)
+    let time = c .before .before in
+    let day = time .before .before in
+    stamped (unsigned (said (day .before .before))) (passes (day .before .in-range .ensures) (day .if2 .left)) (passes (time .before .in-range2 .ensures) (time .if3 .left)) refl refl (c .before .new2 .ensures) (no-minutes (c .new3 .ensures))
 
 pub read-datetime-spec : {M : Type 1} → statement M
 read-datetime-spec =

@@ -1,71 +1,36 @@
--- `read_time` meets its contract: each part that was read tells of its row, and each test of the refusal that it stands for. Assumes nothing.
-use mathlib.Core.Path.{_≡_, refl, sym, _∙_, ap}
-use mathlib.Core.List.{List, [], _∷_}
-use Prim.Native.Nat.{ℕ, _+_, _≤_}
-use native.Mathlib.Omega.{arith}
-use lib.ListN.{length}
+-- `read_time` meets its contract: each part that was read tells what is known behind it, and each test of the refusal that it stands for. Assumes nothing.
+use mathlib.Core.Path.{refl, ap}
 use denote.Ref.{now}
-use Rattle.format.specs.Words.{accepted, refused}
 use Rattle.format.specs.Calendar.{noDate}
-use Rattle.format.specs.Values.{Time, text}
-use Rattle.format.specs.Fields.{width}
-use Rattle.format.specs.TextReading.{digitsFound, readText}
-use Rattle.format.specs.Reading.{readAs}
-use Rattle.format.proofs.Cases.{not-true, not-false}
+use Rattle.format.specs.Values.{Time}
 use Rattle.calendar.specs.Meaning.{dayFrom}
-use Rattle.text.specs.Putting.{fractionField}
-use Rattle.text.specs.Pairs.{rowAt, partAt}
-use Rattle.text.specs.Cursors.{timedRow, partedRow}
-use Rattle.text.specs.Outcomes.{outcomeOf}
-use Rattle.text.proofs.PartLaws.{pairsRow, three-small}
-use Rattle.text.specs.declared.cursor.Cursor.{Cursor}
-use Rattle.text.proofs.Places.{timed-place, part-there}
-use Rattle.text.proofs.Wholes.{time-room, no-date-width, alone-no-pairs, alone-no-part}
-use Rattle.text.proofs.Texts.{microsOf, no-clock, no-time, all-fits, refused-as, too-many, as-long}
-use Rattle.text.proofs.Answering.{noZone, time-read, clock-says, clock-micros, time-micros, no-minutes, stamped}
+use Rattle.text.proofs.Texts.{too-many}
+use Rattle.text.proofs.Places.{AfterClock, AfterPart, AfterAll, Front, noZone, alone, clock-room, clock-wrong, clock-read, clock-small, part-room, part-wrong, part-read, unzoned}
+use Rattle.text.proofs.Answering.{passes, unsigned, no-time, stamped, no-minutes}
 use borrow.Author.Needs.{needs}
 use Rattle.text.proofs.reading.read_time.Statement.{statement}
 use Rattle.text.proofs.reading.read_time.Tie as tie
+
+front : (c : tie.Else1) → Front Time (c .before .digits-in .result) (now (c .before .before .before .args .s)) noDate 0
+front c = alone (record { found = c .before .digits-in .ensures; few = c .if1 .left }) refl refl
+
+paired : (c : tie.After-known-told) → AfterClock (front (c .before .before .before .before)) (c .before .hour .given .1)
+paired c = clock-read (front (c .before .before .before .before)) (c .before .hour .given .1) (c .before .before .before .clock .ensures)
+
+rear : (c : tie.After-known-told2) → AfterPart (paired (c .before .before .before .before)) (c .before .part .given .1)
+rear c = part-read (paired (c .before .before .before .before)) (c .before .part .given .1) (c .before .before .before .fraction .ensures)
+
+said : (c : tie.After-new) → AfterAll (rear (c .before)) (c .new .result) noZone
+said c = unzoned (rear (c .before)) (c .new .ensures) refl
 
 digits-in-requires : tie.Need-digits-in-requires
 digits-in-requires c κs = search needs
 
 returns : tie.Need-returns
-returns c =
-    too-many Time (c .before .digits-in .result) (now (c .before .before .before .args .s)) (c .before .digits-in .ensures) (c .if1 .taken)
-
-abbrev octets : tie.Else1 → List ℕ
-octets c =
-    now (c .before .before .before .args .s)
-
-abbrev count : tie.Else1 → ℕ
-count c = c .before .digits-in .result
-
-few : (c : tie.Else1) → count c ≤ 6
-few c = c .if1 .left
-
-found : (c : tie.Else1) → count c ≡ digitsFound Time (length (octets c))
-found c = c .before .digits-in .ensures
-
-space : (c : tie.Else1) → length (octets c) ≡ 8 + width (fractionField (count c))
-space c = as-long Time (count c) (octets c) (found c) (few c) ∙ time-room (count c)
-
--- a text that is refused
-wrong : (c : tie.Else1) (n : ℕ) → readText Time (count c) (octets c) ≡ refused n → refused n ≡ readAs Time (text (digitsFound Time (length (octets c)))) (octets c)
-wrong c n h = refused-as Time (count c) (octets c) (found c) n h
-
--- from behind a field back to the beginning, and to the field before it
-abbrev text1 : tie.After-known-told → tie.Else1
-text1 c = c .before .before .before .before
-
-abbrev at-clock : tie.After-known-told2 → tie.After-known-told
-at-clock c = c .before .before .before .before
-
-abbrev text2 : tie.After-known-told2 → tie.Else1
-text2 c = text1 (at-clock c)
+returns c = too-many Time _ (now (c .before .before .before .args .s)) (c .before .digits-in .ensures) (c .if1 .taken)
 
 clock-requires : tie.Need-clock-requires
-clock-requires c κs = omega (arith, space c)
+clock-requires c κs = clock-room (front c)
 
 enum-known-hour : tie.Need-enum-known-hour
 enum-known-hour c = search needs
@@ -74,32 +39,10 @@ enum-told : tie.Need-enum-told
 enum-told c = search needs
 
 returns-2 : tie.Need-returns-2
-returns-2 c =
-    let opened = c .before .before .before in
-    wrong opened 6 (no-clock Time (count opened) (octets opened) (few opened) 0 (sym no-date-width) (alone-no-pairs (count opened) (octets opened) 6 (sym (c .before .before .clock .ensures .0) ∙ ap timedRow (c .enum-told .given .1))))
-
-abbrev hour : tie.After-known-told → ℕ
-hour c = c .before .hour .given .0 .0
-
-abbrev minute : tie.After-known-told → ℕ
-minute c = c .before .hour .given .0 .1 .0
-
-abbrev second : tie.After-known-told → ℕ
-second c = c .before .hour .given .0 .1 .1 .0
-
-times : (c : tie.After-known-told) → rowAt (pairsRow 58) (octets (text1 c)) 0 ≡ accepted (hour c ∷ minute c ∷ second c ∷ [])
-times c = sym (c .before .before .before .clock .ensures .0) ∙ ap timedRow (c .before .hour .given .1)
-
-abbrev past-clock : tie.After-known-told → Cursor
-past-clock c = c .before .hour .given .0 .1 .1 .1 .0
-
-past-clock-at : (c : tie.After-known-told) → past-clock c .at ≡ 8
-past-clock-at c = timed-place 8 (past-clock c) _ _ _ _ (c .before .hour .given .1) (c .before .before .before .clock .ensures .1)
+returns-2 c = clock-wrong (front (c .before .before .before)) (c .enum-told .given .1) (c .before .before .clock .ensures .0)
 
 fraction-requires : tie.Need-fraction-requires
-fraction-requires c κs =
-    let opened = text1 c in
-    (omega (arith, space opened, past-clock-at c), few opened)
+fraction-requires c κs = part-room (paired c)
 
 enum-known-part : tie.Need-enum-known-part
 enum-known-part c = search needs
@@ -108,37 +51,16 @@ enum-told-2 : tie.Need-enum-told-2
 enum-told-2 c = search needs
 
 returns-3 : tie.Need-returns-3
-returns-3 c =
-    let got = c .before .before .before in
-    let opened = text1 got in
-    wrong opened 6 (no-clock Time (count opened) (octets opened) (few opened) 0 (sym no-date-width) (alone-no-part (count opened) (octets opened) 6 (part-there _ _ _ (past-clock-at got) _ _ (sym (c .before .before .fraction .ensures .0) ∙ ap partedRow (c .enum-told2 .given .1)))))
-
-abbrev part : tie.After-known-told2 → ℕ
-part c = c .before .part .given .0 .0
-
-fractions : (c : tie.After-known-told2) → partAt (count (text2 c)) (octets (text2 c)) 8 ≡ accepted (part c ∷ [])
-fractions c = part-there _ _ _ (past-clock-at (at-clock c)) _ _ (sym (c .before .before .before .fraction .ensures .0) ∙ ap partedRow (c .before .part .given .1))
-
-abbrev micros : tie.After-known-told2 → ℕ
-micros c = microsOf (hour (at-clock c)) (minute (at-clock c)) (second (at-clock c)) (part c)
-
--- the text, once every octet is right
-read : (c : tie.After-known-told2) → readText Time (count (text2 c)) (octets (text2 c)) ≡ outcomeOf Time noDate (minute (at-clock c)) (second (at-clock c)) (micros c) noZone
-read c = time-read (count (text2 c)) (octets (text2 c)) (few (text2 c)) _ _ _ _ (times (at-clock c)) (fractions c)
+returns-3 c = part-wrong (paired (c .before .before .before)) (c .enum-told2 .given .1) (c .before .before .fraction .ensures .0)
 
 new-requires : tie.Need-new-requires
-new-requires c κs =
-    let said = c .before .before .before .before in
-    let b = three-small _ _ _ _ _ _ (times said) in (omega (arith, b .first), omega (arith, b .second), omega (arith, b .third))
+new-requires c κs = clock-small (paired (c .before .before .before .before))
 
 in-range-requires : tie.Need-in-range-requires
 in-range-requires c κs = search needs
 
 returns-4 : tie.Need-returns-4
-returns-4 c =
-    let said = c .before .before .before in
-    let opened = text2 said in
-    wrong opened 8 (read said ∙ no-time _ _ _ _ _ _ refl (clock-says _ _ _ _ (c .before .before .new .ensures) ∙ sym (c .before .in-range .ensures) ∙ not-true _ (c .if2 .taken)))
+returns-4 c = no-time (unsigned (said (c .before .before))) (c .before .in-range .ensures) (c .if2 .taken)
 
 new-requires-2 : tie.Need-new-requires-2
 new-requires-2 c κs = search needs
@@ -151,10 +73,8 @@ new-requires-4 c κs = search needs
 
 returns-5 : tie.Need-returns-5
 returns-5 c =
-    let test2 = c .before .before .before in
-    let said = test2 .before .before .before in
-    let opened = text2 said in
-    stamped Time (count opened) (octets opened) (found opened) _ _ _ _ (micros said) _ (ap dayFrom (c .before .before .new2 .ensures)) (time-micros _ _ (c .before .new3 .ensures) ∙ clock-micros _ _ _ (micros said) (test2 .before .before .new .ensures)) (no-minutes _ (c .new4 .ensures)) (read said ∙ all-fits _ _ _ _ _ _ refl refl (clock-says _ _ _ (micros said) (test2 .before .before .new .ensures) ∙ sym (test2 .before .in-range .ensures) ∙ not-false _ (test2 .if2 .left)) refl)
+    let time = c .before .before .before in
+    stamped (unsigned (said (time .before .before))) refl (passes (time .before .in-range .ensures) (time .if2 .left)) refl (ap dayFrom (c .before .before .new2 .ensures)) (c .before .new3 .ensures) (no-minutes (c .new4 .ensures))
 
 pub read-time-spec : {M : Type 1} → statement M
 read-time-spec =

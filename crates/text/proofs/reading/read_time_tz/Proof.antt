@@ -1,81 +1,41 @@
--- `read_time_tz` meets its contract: each part that was read tells of its row, and each test of the refusal that it stands for. Assumes nothing.
-use mathlib.Core.Path.{_≡_, refl, sym, _∙_, ap}
-use mathlib.Core.Bool.{true}
-use mathlib.Core.List.{List, [], _∷_}
-use Prim.Native.Nat.{ℕ, _+_, _≤_}
-use native.Mathlib.Omega.{arith}
-use lib.ListN.{length}
+-- `read_time_tz` meets its contract: each part that was read tells what is known behind it, and each test of the refusal that it stands for. Assumes nothing.
+use mathlib.Core.Path.{refl, ap}
 use denote.Ref.{now}
-use Rattle.format.specs.Words.{accepted, refused}
 use Rattle.format.specs.Calendar.{noDate}
-use Rattle.format.specs.Values.{TimeTz, text}
-use Rattle.format.specs.Fields.{width}
-use Rattle.format.specs.Text.{offsetRow}
-use Rattle.format.specs.TextReading.{digitsFound, readText}
-use Rattle.format.specs.Reading.{readAs}
-use Rattle.format.proofs.Cases.{not-true, not-false}
+use Rattle.format.specs.Values.{TimeTz}
 use Rattle.calendar.specs.Meaning.{dayFrom}
-use Rattle.text.specs.declared.parts.Zone.{Zone}
-use Rattle.text.specs.Putting.{fractionField}
-use Rattle.text.specs.Pairs.{rowAt, partAt}
-use Rattle.text.specs.Parts.{minusOf}
-use Rattle.text.specs.Cursors.{timedRow, partedRow, zonedRow}
-use Rattle.text.specs.Outcomes.{outcomeOf}
-use Rattle.text.proofs.PartLaws.{pairsRow, row-not, three-small}
-use Rattle.text.specs.declared.cursor.Cursor.{Cursor}
-use Rattle.text.proofs.Places.{timed-place, parted-place, part-there}
-use Rattle.text.proofs.Wholes.{time-tz-room, no-date-width, alone-width, alone-no-pairs, alone-no-part}
-use Rattle.text.proofs.Texts.{microsOf, no-clock, no-offset, is-redundant, no-time, no-zone, all-fits, refused-as, too-many, as-long}
-use Rattle.text.proofs.Answering.{time-tz-read, clock-says, clock-micros, zone-small, time-micros, stamped}
+use Rattle.text.proofs.Texts.{too-many}
+use Rattle.text.proofs.Places.{AfterClock, AfterPart, AfterAll, Front, alone, clock-room, clock-wrong, clock-read, clock-small, part-room, part-wrong, part-read, zone-room, zone-wrong, zone-read}
+use Rattle.text.proofs.Answering.{passes, is-redundant, AfterSign, not-redundant, no-time, no-zone, stamped, zone-small}
 use borrow.Author.Needs.{needs}
 use Rattle.text.proofs.reading.read_time_tz.Statement.{statement}
 use Rattle.text.proofs.reading.read_time_tz.Tie as tie
+
+front : (c : tie.Else1) → Front TimeTz (c .before .digits-in .result) (now (c .before .before .before .args .s)) noDate 0
+front c = alone (record { found = c .before .digits-in .ensures; few = c .if1 .left }) refl refl
+
+paired : (c : tie.After-known-told) → AfterClock (front (c .before .before .before .before)) (c .before .hour .given .1)
+paired c = clock-read (front (c .before .before .before .before)) (c .before .hour .given .1) (c .before .before .before .clock .ensures)
+
+rear : (c : tie.After-known-told2) → AfterPart (paired (c .before .before .before .before)) (c .before .part .given .1)
+rear c = part-read (paired (c .before .before .before .before)) (c .before .part .given .1) (c .before .before .before .fraction .ensures)
+
+said : (c : tie.After-new) → AfterAll (rear (c .before .before .before .before .before)) (c .new .result) (c .before .before .zone2 .given .0 .0)
+said c =
+    let z = c .before .before in
+    zone-read (rear (z .before .before .before)) (c .new .ensures) (z .zone2 .given .1) (z .before .before .zone .ensures .0)
+
+plain : (c : tie.Else2) → AfterSign (said (c .before .before))
+plain c = not-redundant (said (c .before .before)) (c .before .is-minus-zero .ensures) (c .if2 .left)
 
 digits-in-requires : tie.Need-digits-in-requires
 digits-in-requires c κs = search needs
 
 returns : tie.Need-returns
-returns c =
-    too-many TimeTz (c .before .digits-in .result) (now (c .before .before .before .args .s)) (c .before .digits-in .ensures) (c .if1 .taken)
-
-abbrev octets : tie.Else1 → List ℕ
-octets c =
-    now (c .before .before .before .args .s)
-
-abbrev count : tie.Else1 → ℕ
-count c = c .before .digits-in .result
-
-few : (c : tie.Else1) → count c ≤ 6
-few c = c .if1 .left
-
-found : (c : tie.Else1) → count c ≡ digitsFound TimeTz (length (octets c))
-found c = c .before .digits-in .ensures
-
-space : (c : tie.Else1) → length (octets c) ≡ 14 + width (fractionField (count c))
-space c = as-long TimeTz (count c) (octets c) (found c) (few c) ∙ time-tz-room (count c)
-
--- a text that is refused
-wrong : (c : tie.Else1) (n : ℕ) → readText TimeTz (count c) (octets c) ≡ refused n → refused n ≡ readAs TimeTz (text (digitsFound TimeTz (length (octets c)))) (octets c)
-wrong c n h = refused-as TimeTz (count c) (octets c) (found c) n h
-
--- from behind a field back to the beginning, and to the field before it
-abbrev text1 : tie.After-known-told → tie.Else1
-text1 c = c .before .before .before .before
-
-abbrev at-clock : tie.After-known-told2 → tie.After-known-told
-at-clock c = c .before .before .before .before
-
-abbrev text2 : tie.After-known-told2 → tie.Else1
-text2 c = text1 (at-clock c)
-
-abbrev at-fraction : tie.After-known-told3 → tie.After-known-told2
-at-fraction c = c .before .before .before .before
-
-abbrev text3 : tie.After-known-told3 → tie.Else1
-text3 c = text2 (at-fraction c)
+returns c = too-many TimeTz _ (now (c .before .before .before .args .s)) (c .before .digits-in .ensures) (c .if1 .taken)
 
 clock-requires : tie.Need-clock-requires
-clock-requires c κs = omega (arith, space c)
+clock-requires c κs = clock-room (front c)
 
 enum-known-hour : tie.Need-enum-known-hour
 enum-known-hour c = search needs
@@ -84,32 +44,10 @@ enum-told : tie.Need-enum-told
 enum-told c = search needs
 
 returns-2 : tie.Need-returns-2
-returns-2 c =
-    let opened = c .before .before .before in
-    wrong opened 6 (no-clock TimeTz (count opened) (octets opened) (few opened) 0 (sym no-date-width) (alone-no-pairs (count opened) (octets opened) 6 (sym (c .before .before .clock .ensures .0) ∙ ap timedRow (c .enum-told .given .1))))
-
-abbrev hour : tie.After-known-told → ℕ
-hour c = c .before .hour .given .0 .0
-
-abbrev minute : tie.After-known-told → ℕ
-minute c = c .before .hour .given .0 .1 .0
-
-abbrev second : tie.After-known-told → ℕ
-second c = c .before .hour .given .0 .1 .1 .0
-
-times : (c : tie.After-known-told) → rowAt (pairsRow 58) (octets (text1 c)) 0 ≡ accepted (hour c ∷ minute c ∷ second c ∷ [])
-times c = sym (c .before .before .before .clock .ensures .0) ∙ ap timedRow (c .before .hour .given .1)
-
-abbrev past-clock : tie.After-known-told → Cursor
-past-clock c = c .before .hour .given .0 .1 .1 .1 .0
-
-past-clock-at : (c : tie.After-known-told) → past-clock c .at ≡ 8
-past-clock-at c = timed-place 8 (past-clock c) _ _ _ _ (c .before .hour .given .1) (c .before .before .before .clock .ensures .1)
+returns-2 c = clock-wrong (front (c .before .before .before)) (c .enum-told .given .1) (c .before .before .clock .ensures .0)
 
 fraction-requires : tie.Need-fraction-requires
-fraction-requires c κs =
-    let opened = text1 c in
-    (omega (arith, space opened, past-clock-at c), few opened)
+fraction-requires c κs = part-room (paired c)
 
 enum-known-part : tie.Need-enum-known-part
 enum-known-part c = search needs
@@ -118,29 +56,10 @@ enum-told-2 : tie.Need-enum-told-2
 enum-told-2 c = search needs
 
 returns-3 : tie.Need-returns-3
-returns-3 c =
-    let got = c .before .before .before in
-    let opened = text1 got in
-    wrong opened 6 (no-clock TimeTz (count opened) (octets opened) (few opened) 0 (sym no-date-width) (alone-no-part (count opened) (octets opened) 6 (part-there _ _ _ (past-clock-at got) _ _ (sym (c .before .before .fraction .ensures .0) ∙ ap partedRow (c .enum-told2 .given .1)))))
-
-abbrev part : tie.After-known-told2 → ℕ
-part c = c .before .part .given .0 .0
-
-fractions : (c : tie.After-known-told2) → partAt (count (text2 c)) (octets (text2 c)) 8 ≡ accepted (part c ∷ [])
-fractions c = part-there _ _ _ (past-clock-at (at-clock c)) _ _ (sym (c .before .before .before .fraction .ensures .0) ∙ ap partedRow (c .before .part .given .1))
-
-abbrev past-fraction : tie.After-known-told2 → Cursor
-past-fraction c = c .before .part .given .0 .1 .0
-
-past-fraction-at : (c : tie.After-known-told2) → past-fraction c .at ≡ 8 + width (fractionField (count (text2 c)))
-past-fraction-at c =
-    let e : past-fraction c .at ≡ past-clock (at-clock c) .at + width (fractionField (count (text2 c))) = parted-place _ (past-fraction c) _ _ (c .before .part .given .1) (c .before .before .before .fraction .ensures .1) in
-    omega (arith, e, past-clock-at (at-clock c))
+returns-3 c = part-wrong (paired (c .before .before .before)) (c .enum-told2 .given .1) (c .before .before .fraction .ensures .0)
 
 zone-requires : tie.Need-zone-requires
-zone-requires c κs =
-    let opened = text2 c in
-    omega (arith, space opened, past-fraction-at c)
+zone-requires c κs = zone-room (rear c) refl
 
 enum-known-zone : tie.Need-enum-known-zone
 enum-known-zone c = search needs
@@ -149,57 +68,28 @@ enum-told-3 : tie.Need-enum-told-3
 enum-told-3 c = search needs
 
 returns-4 : tie.Need-returns-4
-returns-4 c =
-    let got = c .before .before .before in
-    let opened = text2 got in
-    wrong opened 6 (no-offset TimeTz (count opened) (octets opened) (few opened) (past-fraction got .at) (omega (arith, no-date-width, alone-width (count opened), past-fraction-at got)) (row-not (offsetRow true) (octets opened) (past-fraction got .at) 6 (sym (c .before .before .zone .ensures .0) ∙ ap zonedRow (c .enum-told3 .given .1))))
-
-abbrev zone : tie.After-known-told3 → Zone
-zone c = c .before .zone2 .given .0 .0
-
-zones : (c : tie.After-known-told3) → rowAt (offsetRow true) (octets (text3 c)) (past-fraction (at-fraction c) .at) ≡ accepted (minusOf (zone c .minus) ∷ zone c .hours ∷ zone c .minutes ∷ [])
-zones c = sym (c .before .before .before .zone .ensures .0) ∙ ap zonedRow (c .before .zone2 .given .1)
-
-abbrev micros : tie.After-known-told3 → ℕ
-micros c = microsOf (hour (at-clock (at-fraction c))) (minute (at-clock (at-fraction c))) (second (at-clock (at-fraction c))) (part (at-fraction c))
-
--- the text, once every octet is right
-read : (c : tie.After-known-told3) → readText TimeTz (count (text3 c)) (octets (text3 c)) ≡ outcomeOf TimeTz noDate (minute (at-clock (at-fraction c))) (second (at-clock (at-fraction c))) (micros c) (zone c)
-read c = time-tz-read (count (text3 c)) (octets (text3 c)) (few (text3 c)) _ _ _ _ _ (zone c) (past-fraction-at (at-fraction c)) (times (at-clock (at-fraction c))) (fractions (at-fraction c)) (zones c)
+returns-4 c = zone-wrong (rear (c .before .before .before)) (c .enum-told3 .given .1) (c .before .before .zone .ensures .0)
 
 new-requires : tie.Need-new-requires
-new-requires c κs =
-    let said = c .before .before .before .before .before .before .before .before in
-    let b = three-small _ _ _ _ _ _ (times said) in (omega (arith, b .first), omega (arith, b .second), omega (arith, b .third))
+new-requires c κs = clock-small (paired (c .before .before .before .before .before .before .before .before))
 
 is-minus-zero-requires : tie.Need-is-minus-zero-requires
 is-minus-zero-requires c κs = search needs
 
 returns-5 : tie.Need-returns-5
-returns-5 c =
-    let said = c .before .before .before in
-    let opened = text3 said in
-    wrong opened 7 (read said ∙ is-redundant _ _ _ _ _ _ (sym (c .before .is-minus-zero .ensures) ∙ c .if2 .taken))
+returns-5 c = is-redundant (said (c .before .before)) (c .before .is-minus-zero .ensures) (c .if2 .taken)
 
 in-range-requires : tie.Need-in-range-requires
 in-range-requires c κs = search needs
 
 returns-6 : tie.Need-returns-6
-returns-6 c =
-    let test2 = c .before .before in
-    let said = test2 .before .before .before in
-    let opened = text3 said in
-    wrong opened 8 (read said ∙ no-time _ _ _ _ _ _ (sym (test2 .before .is-minus-zero .ensures) ∙ test2 .if2 .left) (clock-says _ _ _ _ (test2 .before .before .new .ensures) ∙ sym (c .before .in-range .ensures) ∙ not-true _ (c .if3 .taken)))
+returns-6 c = no-time (plain (c .before .before)) (c .before .in-range .ensures) (c .if3 .taken)
 
 in-range-requires-2 : tie.Need-in-range-requires-2
 in-range-requires-2 c κs = search needs
 
 returns-7 : tie.Need-returns-7
-returns-7 c =
-    let test2 = c .before .before .before .before in
-    let said = test2 .before .before .before in
-    let opened = text3 said in
-    wrong opened 8 (read said ∙ no-zone _ _ _ _ _ _ (sym (test2 .before .is-minus-zero .ensures) ∙ test2 .if2 .left) (sym (c .before .in-range2 .ensures) ∙ not-true _ (c .if4 .taken)))
+returns-7 c = no-zone (plain (c .before .before .before .before)) (c .before .in-range2 .ensures) (c .if4 .taken)
 
 new-requires-2 : tie.Need-new-requires-2
 new-requires-2 c κs = search needs
@@ -208,19 +98,13 @@ new-requires-3 : tie.Need-new-requires-3
 new-requires-3 c κs = search needs
 
 offset-requires : tie.Need-offset-requires
-offset-requires c κs =
-    let test4 = c .before .before in
-    let said = test4 .before .before .before .before .before .before .before in
-    zone-small (zone said) (sym (test4 .before .in-range2 .ensures) ∙ not-false _ (test4 .if4 .left))
+offset-requires c κs = zone-small _ _ (passes (c .before .before .before .in-range2 .ensures) (c .before .before .if4 .left))
 
 returns-8 : tie.Need-returns-8
 returns-8 c =
-    let test4 = c .before .before .before in
-    let test3 = test4 .before .before in
-    let test2 = test3 .before .before in
-    let said = test2 .before .before .before in
-    let opened = text3 said in
-    stamped TimeTz (count opened) (octets opened) (found opened) _ _ _ _ (micros said) _ (ap dayFrom (c .before .before .new2 .ensures)) (time-micros _ _ (c .before .new3 .ensures) ∙ clock-micros _ _ _ (micros said) (test2 .before .before .new .ensures)) (c .offset .ensures) (read said ∙ all-fits _ _ _ _ _ _ (sym (test2 .before .is-minus-zero .ensures) ∙ test2 .if2 .left) refl (clock-says _ _ _ (micros said) (test2 .before .before .new .ensures) ∙ sym (test3 .before .in-range .ensures) ∙ not-false _ (test3 .if3 .left)) (sym (test4 .before .in-range2 .ensures) ∙ not-false _ (test4 .if4 .left)))
+    let zone = c .before .before .before in
+    let time = zone .before .before in
+    stamped (plain (time .before .before)) refl (passes (time .before .in-range .ensures) (time .if3 .left)) (passes (zone .before .in-range2 .ensures) (zone .if4 .left)) (ap dayFrom (c .before .before .new2 .ensures)) (c .before .new3 .ensures) (c .offset .ensures)
 
 pub read-time-tz-spec : {M : Type 1} → statement M
 read-time-tz-spec =

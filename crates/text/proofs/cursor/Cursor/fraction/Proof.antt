@@ -1,6 +1,5 @@
 -- `fraction` meets its contract: three digits as a word, others one by one, and as many octets as the field is wide. Assumes nothing.
 use mathlib.Core.Path.{_≡_, sym, _∙_, ap}
-use Prim.Native.Nat.{_+_}
 use native.Mathlib.Omega.{arith}
 use Rattle.format.specs.Fields.{width}
 use Rattle.text.specs.Putting.{fractionField}

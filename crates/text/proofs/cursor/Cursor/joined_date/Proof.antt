@@ -1,10 +1,9 @@
 -- `joined_date` meets its contract: the `T` first, then the date. Assumes nothing.
-use mathlib.Core.Path.{_≡_, refl, sym, _∙_, ap}
+use mathlib.Core.Path.{_≡_, sym, _∙_, ap}
 use Prim.Native.Nat.{_+_}
 use native.Mathlib.Omega.{arith}
 use Rattle.text.specs.Cursors.{datedRow}
 use Rattle.text.proofs.PartLaws.{not-joined, joined}
-use Rattle.text.proofs.Places.{dated-place}
 use borrow.Author.Needs.{needs}
 use Rattle.text.proofs.cursor.Cursor.joined_date.Statement.{statement}
 use Rattle.text.proofs.cursor.Cursor.joined_date.Tie as tie
@@ -35,7 +34,7 @@ start c = c .before .before .before .before .before .before .before
 
 -- where the `T` stands
 mark : (c : tie.After-known-told) → c .before .date2 .given .0 .1 .0 .at ≡ start c .args .self .at + 10
-mark c = dated-place _ _ _ _ (c .before .date2 .given .1) (c .before .before .before .date .ensures .1)
+mark c = rw (c .before .date2 .given .1) at (c .before .before .before .date .ensures .1)
 
 add-t6 : tie.Need-add-t6
 add-t6 c = omega (arith, mark (c .before), start (c .before) .pre)
