@@ -13,7 +13,7 @@ use Rattle.format.specs.Calendar.{Day, isDay}
 use Rattle.format.specs.Values.{Kind, dated, text}
 use Rattle.format.specs.TextReading.{digitsFound}
 use Rattle.format.specs.Reading.{readAs}
-use Rattle.format.proofs.Cases.{both-true, not-true, not-false}
+use Rattle.format.proofs.Cases.{both-true}
 use Rattle.calendar.specs.declared.Date.{Date}
 use Rattle.calendar.specs.Meaning.{dayFrom}
 use Rattle.values.specs.declared.parts.Time.{Time}
@@ -23,15 +23,9 @@ use Rattle.text.specs.declared.parts.Zone.{Zone}
 use Rattle.text.specs.declared.parts.Clock.{Clock}
 use Rattle.text.specs.Parts.{offsetOf}
 use Rattle.text.specs.Outcomes.{clockFits, outcomeOf}
+use Rattle.text.proofs.Rows.{fails}
 use Rattle.text.proofs.Texts.{redundant, zoneFits, redundant-outcome, no-day-outcome, no-time-outcome, no-zone-outcome, all-fits, accepted-as}
 use Rattle.text.proofs.Places.{Refuses, Said, noZone, refuses}
-
--- what a test of the opposite tells
-pub passes : {b t : Bool} → b ≡ t → not b ≡ false → t ≡ true
-passes e h = sym e ∙ not-false _ h
-
-fails : {b t : Bool} → b ≡ t → not b ≡ true → t ≡ false
-fails e h = sym e ∙ not-true _ h
 
 -- and it is not -00:00
 pub record Plain (k : Kind) (d : ℕ) (s : List ℕ) (x : Day) (t : Clock) (z : Zone) : Type 0 where

@@ -35,8 +35,8 @@ use Rattle.text.specs.Cursors.{datedRow, timedRow, partedRow, zonedRow, 
 use Rattle.text.specs.Outcomes.{outcomeOf}
 use Rattle.text.proofs.Rows.{absent-row}
 use Rattle.text.proofs.PartLaws.{Below100, pairsRow, row-got, row-not, three-small}
-use Rattle.text.proofs.Wholes.{date-width, clock-width, alone-width, no-clock-width, zone-width, joined-whole, not-joined, alone-fit, alone-says, behind-fit, behind-says, part-got, part-not, part-below}
-use Rattle.text.proofs.Texts.{microsOf, text-parts, parts-long, no-date, no-clock, no-joint, no-offset, refused-as, as-long}
+use Rattle.text.proofs.Wholes.{date-width, clock-width, zone-width, parts-long, joined-whole, not-joined, alone-fit, alone-says, behind-fit, behind-says, part-got, part-not, part-below}
+use Rattle.text.proofs.Texts.{microsOf, text-parts, no-date, no-clock, no-joint, no-offset, refused-as, as-long}
 
 -- the answer is that number
 abbrev pub Refuses : Kind → List ℕ → ℕ → Type 0
@@ -118,7 +118,7 @@ module _ {k : Kind} {d : ℕ} {s : List ℕ} (o : Opened k d s) where
 
   module _ (b : dated k ≡ true) where
     ten : widths (dateRow (dated k)) ≡ 10
-    ten = rw b date-width
+    ten = rw b (date-width true)
 
     pub date-room : 10 ≤ length s
     date-room = omega (arith, ten, long)
@@ -127,7 +127,7 @@ module _ {k : Kind} {d : ℕ} {s : List ℕ} (o : Opened k d s) where
     date-read t {x = x} {c = c} e h =
         let place : c .at ≡ 10 = rw e at (h .1) in
         let p = row-got (dateRow (dated k)) s 0 _ (sym (h .0) ∙ ap datedRow e) in
-        let none : widths (clockRow (timed k) (dated k) d) ≡ 0 = rw t (no-clock-width (dated k) d) in
+        let none : widths (clockRow (timed k) (dated k) d) ≡ 0 = rw t (clock-width false (dated k) d) in
         record {
           opened = o;
           next = omega (arith, place, ten, none);
@@ -139,7 +139,7 @@ module _ {k : Kind} {d : ℕ} {s : List ℕ} (o : Opened k d s) where
   module _ (b : dated k ≡ true) (t : timed k ≡ true) where
     pub joined-room : 11 ≤ length s
     joined-room =
-        let f : widths (clockRow (timed k) (dated k) d) ≡ 9 + width (fractionField d) = rw (b, t) (clock-width d) in
+        let f : widths (clockRow (timed k) (dated k) d) ≡ 9 + width (fractionField d) = rw (b, t) (clock-width true true d) in
         omega (arith, ten b, f, long)
 
     pub joined-wrong : {r : Dated} → r ≡ D.Refused → datedRow r ≡ joinedAt s 0 → Refuses k s 6
@@ -155,7 +155,7 @@ module _ {k : Kind} {d : ℕ} {s : List ℕ} (o : Opened k d s) where
           date = rw b (w .date);
           fits = rw (b, t, place, behind-fit d s, w .mark);
           says = rw (b, t, place, behind-says d s);
-          next = rw (b, t) (omega (arith, place, clock-width d));
+          next = rw (b, t) (omega (arith, place, clock-width true true d));
         }
 
   -- no date
@@ -167,7 +167,7 @@ module _ {k : Kind} {d : ℕ} {s : List ℕ} (o : Opened k d s) where
         date = rw b (absent-row 3 s 0);
         fits = rw (b, t);
         says = rw (b, t);
-        next = rw (b, t) (omega (arith, alone-width d));
+        next = rw (b, t) (omega (arith, clock-width true false d));
       }
 
 -- ---- the clock
@@ -225,7 +225,7 @@ module _ {k : Kind} {d : ℕ} {s : List ℕ} {x : Day} {h m n a : ℕ} (f : Pair
 module _ {k : Kind} {d : ℕ} {s : List ℕ} {x : Day} {t : Clock} {a : ℕ} (f : Rear k d s x t a) where
   pub zone-room : zoned k ≡ true → a + 6 ≤ length s
   zone-room z =
-      let e : widths (offsetRow (zoned k)) ≡ 6 = rw z zone-width in
+      let e : widths (offsetRow (zoned k)) ≡ 6 = rw z (zone-width true) in
       omega (arith, e, f .next, long (f .opened))
 
   pub zone-wrong : {r : Zoned} → r ≡ Z.Refused → zonedRow r ≡ rowAt (offsetRow (zoned k)) s a → Refuses k s 6

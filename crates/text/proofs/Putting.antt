@@ -1,7 +1,7 @@
 -- A text is put part by part: its image is the date's, the clock's and the offset's octets one after another, each none where the kind lacks
 -- the part, and runs of stores that follow one another are one run. Assumes nothing.
 use mathlib.Core.Path.{_≡_, refl, sym, _∙_, ap}
-use mathlib.Core.Bool.{Bool, true, false, not}
+use mathlib.Core.Bool.{Bool, true, false}
 use mathlib.Core.List.{List, [], _∷_, _++_, append-nil}
 use Prim.Native.Nat.{ℕ, _+_, _-_, _/_, _%_, _<_, _≤_}
 use native.Mathlib.Nat.{zero-add}
@@ -11,12 +11,12 @@ use lib.Signed.{nonNeg}
 use lib.Dec.{eqb}
 use lib.ListN.{length, set, take, drop, length-append}
 use lib.Seq.{sets}
-use borrow.Author.Tests.{ne-eqb, leb-true}
+use borrow.Author.Tests.{leb-true}
 use Rattle.format.specs.Words.{pick, ifAny}
 use Rattle.format.specs.Calendar.{Day, leap, isDay}
 use Rattle.format.specs.Digits.{digitsOf}
 use Rattle.format.specs.Values.{Kind, dated, timed, zoned, Value, timeInRange, offsetInRange}
-use Rattle.format.specs.Fields.{Field, after, when, put, puts, width, widths}
+use Rattle.format.specs.Fields.{Field, put, puts, width, widths}
 use Rattle.format.specs.Text.{dateRow, clockRow, offsetRow, layout, fractionUnit, textNumbers, textImage}
 use Rattle.format.proofs.Dates.{parts, short-month}
 use Rattle.format.proofs.Clock.{seven}
@@ -74,35 +74,6 @@ text-stored l k d v =
     let n = clock-length (timed k) (dated k) d (v .micros) in
     sets-then (sets l 0 ds) (widths (dateRow (dated k))) _ cs os (cs ++ os) (ap (λ (w : ℕ). widths (dateRow (dated k)) + w) n) refl
     ∙ sets-then l 0 (widths (dateRow (dated k))) ds (cs ++ os) (textImage k d v) (zero-add (length ds) ∙ m) (image-parts k d v)
-
--- ---- how wide the rows are
-
-pub date-width : (b : Bool) → widths (dateRow b) ≡ ifAny b 10
-unfolding widths width
-date-width true = refl
-date-width false = refl
-
-pub no-clock : (b : Bool) (d : ℕ) → widths (clockRow false b d) ≡ 0
-unfolding widths width
-no-clock b d = refl
-
--- `T` before it where there is a date
-pub clock-width : (b : Bool) (d : ℕ) → widths (clockRow true b d) ≡ ifAny b 1 + 8 + width (fractionField d)
-unfolding widths width
-clock-width true d = omega arith
-clock-width false d = omega arith
-
-pub fraction-width : (d : ℕ) → (d ≡ 0 → ⊥) → width (fractionField d) ≡ d + 1
-unfolding width
-fraction-width d n = rw (ne-eqb d 0 n) (omega arith)
-
-pub fraction-narrow : (d : ℕ) → width (fractionField d) ≤ d + 1
-unfolding width
-fraction-narrow d = go (eqb d 0)
-  where
-    go : (b : Bool) → width (when (not b) (after 46 d)) ≤ d + 1
-    go true = unfold width in omega arith
-    go false = unfold width in omega arith
 
 -- ---- the parts, from what is stored in one go
 

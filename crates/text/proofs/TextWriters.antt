@@ -1,135 +1,106 @@
--- How a text writer keeps its promise: over any kind, by what its tests tell; and for each kind the parts that it stores one behind the other,
--- which are the image. Assumes nothing.
+-- How a text writer keeps its promise, by what its tests tell and by the parts that it stores one behind the other, which are the image. Over the
+-- kind; b is what a test answered. Assumes nothing.
 use mathlib.Core.Path.{_≡_, refl, sym, _∙_}
-use mathlib.Core.Bool.{true, false}
-use mathlib.Core.List.{List, []}
+use mathlib.Core.Bool.{Bool, true, false, not}
+use mathlib.Core.List.{List}
 use Prim.Native.Nat.{ℕ, _+_, _<_, _≤_}
 use native.Mathlib.Omega.{arith}
 use lib.IntN.{ℤ}
 use lib.ListN.{length, set}
 use lib.Seq.{sets}
-use Rattle.format.specs.Words.{needs}
+use Rattle.format.specs.Words.{needs, ifAny}
 use Rattle.format.specs.Calendar.{Day, isDay}
-use Rattle.format.specs.Values.{Kind, Date, DateTz, Time, TimeTz, Datetime, DatetimeTz, dated, timed, zoned, Value, timeInRange, offsetInRange, inRange, text}
+use Rattle.format.specs.Values.{Kind, dated, timed, zoned, Value, timeInRange, offsetInRange, inRange, text}
 use Rattle.format.specs.Fields.{put, puts, width, widths}
-use Rattle.format.specs.Text.{dateRow, clockRow, layout, textLength, textImage}
+use Rattle.format.specs.Text.{dateRow, clockRow, offsetRow, textLength, textImage}
 use Rattle.format.specs.Writing.{imageIn, hasForm, encodeIn}
 use Rattle.format.proofs.Cases.{both-false}
+use Rattle.format.proofs.Text.{InRange}
 use Rattle.format.proofs.Text as laws
 use Rattle.values.specs.Promise.{Left}
 use Rattle.values.proofs.Writes.{refuses, short, stored}
 use Rattle.text.specs.Putting.{dateOctets, clockOctets, offsetOctets, fractionField}
-use Rattle.text.proofs.Putting.{text-stored, joint-stored, date-width, no-clock, clock-width}
+use Rattle.text.proofs.Rows.{fails}
+use Rattle.text.proofs.Wholes.{date-width, zone-width, parts-long, text-long, fraction-narrow}
+use Rattle.text.proofs.Putting.{text-stored, joint-stored}
 
--- ---- what the tests tell
-
-module _ (k : Kind) (v : Value) where
-  date-out : dated k ≡ true → isDay (v .date) ≡ false → inRange k v ≡ false
-  unfolding inRange
-  date-out d e = rw (d, e)
-
-  time-out : timed k ≡ true → timeInRange (v .micros) ≡ false → inRange k v ≡ false
-  unfolding inRange
-  time-out t e = rw (t, e) (both-false (needs (dated k) (isDay (v .date))))
-
-  offset-out : zoned k ≡ true → offsetInRange (v .offset) ≡ false → inRange k v ≡ false
-  unfolding inRange
-  offset-out z e = rw (z, e, both-false (needs (timed k) (timeInRange (v .micros)))) (both-false (needs (dated k) (isDay (v .date))))
+-- ---- a part out of its range
 
 module _ (k : Kind) (d : ℕ) (v : Value) (lent : List ℕ) where
   out-of-range : inRange k v ≡ false → Left (encodeIn k (text d) v) lent 2 0 lent
   out-of-range e = rw e (refuses 2 lent)
 
-  pub date-refused : dated k ≡ true → isDay (v .date) ≡ false → Left (encodeIn k (text d) v) lent 2 0 lent
-  date-refused t e = out-of-range (date-out k v t e)
+  pub date-refused : dated k ≡ true → {b : Bool} → b ≡ isDay (v .date) → not b ≡ true → Left (encodeIn k (text d) v) lent 2 0 lent
+  date-refused t e h = out-of-range (unfold inRange in rw (t, fails e h))
 
-  pub time-refused : timed k ≡ true → timeInRange (v .micros) ≡ false → Left (encodeIn k (text d) v) lent 2 0 lent
-  time-refused t e = out-of-range (time-out k v t e)
+  pub time-refused : timed k ≡ true → {b : Bool} → b ≡ timeInRange (v .micros) → not b ≡ true → Left (encodeIn k (text d) v) lent 2 0 lent
+  time-refused t e h = out-of-range (unfold inRange in rw (t, fails e h) (both-false (needs (dated k) (isDay (v .date)))))
 
-  pub offset-refused : zoned k ≡ true → offsetInRange (v .offset) ≡ false → Left (encodeIn k (text d) v) lent 2 0 lent
-  offset-refused t e = out-of-range (offset-out k v t e)
+  pub offset-refused : zoned k ≡ true → {b : Bool} → b ≡ offsetInRange (v .offset) → not b ≡ true → Left (encodeIn k (text d) v) lent 2 0 lent
+  offset-refused t e h =
+      out-of-range (unfold inRange in rw (t, fails e h, both-false (needs (timed k) (timeInRange (v .micros)))) (both-false (needs (dated k) (isDay (v .date)))))
 
-  -- the length n was asked for
-  module _ (r : inRange k v ≡ true) (h : d ≤ 6) (n : ℕ) (e : n ≡ textLength k d) where
-    pub no-room : length lent < n → Left (encodeIn k (text d) v) lent 4 0 lent
-    unfolding imageIn hasForm
-    no-room l = rw r (short (textImage k d v) lent (omega (arith, e, laws.text-length k d v r h)))
+-- ---- a value in range, whose text has n octets
 
-    pub written : n ≤ length lent → (left : List ℕ) → left ≡ sets lent 0 (textImage k d v) → Left (encodeIn k (text d) v) lent 0 n left
-    unfolding imageIn hasForm
-    written l left s = rw r (stored (textImage k d v) lent left n (e ∙ sym (laws.text-length k d v r h)) (omega (arith, e, laws.text-length k d v r h)) s)
+pub record Ready (k : Kind) (d : ℕ) (v : Value) (n : ℕ) : Type 0 where
+  pub ranges : InRange k v
+  pub few : d ≤ 6
+  pub long : n ≡ textLength k d
 
--- ---- how long the texts are
+-- ---- the parts, stored one behind the other
 
-pub date-length : 10 ≡ textLength Date 0
-unfolding textLength layout widths width
-date-length = refl
-
-pub date-tz-length : 16 ≡ textLength DateTz 0
-unfolding textLength layout widths width
-date-tz-length = refl
-
-module _ (d : ℕ) where
-  pub time-length : 8 + width (fractionField d) ≡ textLength Time d
-  unfolding textLength layout widths width
-  time-length = omega arith
-
-  pub time-tz-length : 8 + width (fractionField d) + 6 ≡ textLength TimeTz d
-  unfolding textLength layout widths width
-  time-tz-length = omega arith
-
-  pub datetime-length : 19 + width (fractionField d) ≡ textLength Datetime d
-  unfolding textLength layout widths width
-  datetime-length = omega arith
-
-  pub datetime-tz-length : 19 + width (fractionField d) + 6 ≡ textLength DatetimeTz d
-  unfolding textLength layout widths width
-  datetime-tz-length = omega arith
-
--- ---- the parts of each kind, stored one behind the other
-
-no-date : (x : Day) → dateOctets false x ≡ []
+-- a part that the kind lacks is nothing
+pub no-date : (l : List ℕ) (x : Day) → l ≡ sets l 0 (dateOctets false x)
 unfolding dateOctets puts put
-no-date x = refl
+no-date l x = refl
 
-no-time : (d x : ℕ) → clockOctets false true d x ≡ []
+pub no-time : (l : List ℕ) (at d x : ℕ) → l ≡ sets l at (clockOctets false true d x)
 unfolding clockOctets puts put
-no-time d x = refl
+no-time l at d x = refl
 
-no-offset : (m : ℤ) → offsetOctets false m ≡ []
+no-offset : (l : List ℕ) (at : ℕ) (m : ℤ) → l ≡ sets l at (offsetOctets false m)
 unfolding offsetOctets puts put
-no-offset m = refl
+no-offset l at m = refl
 
--- b, c, .. are the buffer after each store
-module _ (l : List ℕ) (v : Value) where
-  pub date-text : (b : List ℕ) → b ≡ sets l 0 (dateOctets true (v .date)) → b ≡ sets l 0 (textImage Date 0 v)
-  date-text b p = p ∙ (rw (no-time 0 (v .micros), no-offset (v .offset)) at (text-stored l Date 0 v))
+-- a `T` and the time, behind a date
+pub joined-time : {l b c date : List ℕ} → l ≡ date → (d x : ℕ) → b ≡ set l 10 84 → c ≡ sets b 11 (clockOctets true false d x) → c ≡ sets l 10 (clockOctets true true d x)
+joined-time {l} e d x p q = q ∙ rw p (joint-stored l 10 d x)
 
-  pub date-tz-text : (b c : List ℕ) → b ≡ sets l 0 (dateOctets true (v .date)) → c ≡ sets b 10 (offsetOctets true (v .offset))
-      → c ≡ sets l 0 (textImage DateTz 0 v)
-  date-tz-text b c p q =
-      let e : widths (dateRow true) + widths (clockRow false true 0) ≡ 10 = omega (arith, date-width true, no-clock true 0) in
-      q ∙ rw p (rw (no-time 0 (v .micros), e) at (text-stored l DateTz 0 v))
+at-most : (b : Bool) (n : ℕ) → ifAny b n ≤ n
+at-most true n = omega arith
+at-most false n = omega arith
 
-module _ (l : List ℕ) (d : ℕ) (v : Value) where
-  pub time-text : (b : List ℕ) → b ≡ sets l 0 (clockOctets true false d (v .micros)) → b ≡ sets l 0 (textImage Time d v)
-  time-text b p = p ∙ (rw (no-date (v .date), no-offset (v .offset), date-width false) at (text-stored l Time d v))
+module _ {k : Kind} {d : ℕ} {v : Value} {n : ℕ} (r : Ready k d v n) where
+  pub small : n ≤ 32
+  small =
+      let time = ifAny (dated k) 1 + 8 + width (fractionField d) in
+      omega (arith, r .long, text-long k d, at-most (dated k) 10, at-most (dated k) 1, at-most (timed k) time, at-most (zoned k) 6, fraction-narrow d, r .few)
 
-  pub time-tz-text : (b c : List ℕ) (n : ℕ) → n ≡ width (fractionField d) → b ≡ sets l 0 (clockOctets true false d (v .micros))
-      → c ≡ sets b (8 + n) (offsetOctets true (v .offset)) → c ≡ sets l 0 (textImage TimeTz d v)
-  time-tz-text b c n h p q =
-      let e : widths (dateRow false) + widths (clockRow true false d) ≡ 8 + n = omega (arith, date-width false, clock-width false d) in
-      q ∙ rw p (rw (no-date (v .date), e, date-width false) at (text-stored l TimeTz d v))
+  in-range : inRange k v ≡ true
+  in-range = laws.range-in k v (r .ranges)
 
-  module _ (b c f : List ℕ) (p : b ≡ sets l 0 (dateOctets true (v .date))) (q : c ≡ set b 10 84) (r : f ≡ sets c 11 (clockOctets true false d (v .micros))) where
-    date-and-time : f ≡ sets (sets l 0 (dateOctets true (v .date))) 10 (clockOctets true true d (v .micros))
-    date-and-time = r ∙ rw (q, p) (joint-stored (sets l 0 (dateOctets true (v .date))) 10 d (v .micros))
+  pub no-room : (lent : List ℕ) → length lent < n → Left (encodeIn k (text d) v) lent 4 0 lent
+  unfolding imageIn hasForm
+  no-room lent l = rw in-range (short (textImage k d v) lent (omega (arith, r .long, laws.text-length k d v in-range (r .few))))
 
-    pub datetime-text : f ≡ sets l 0 (textImage Datetime d v)
-    datetime-text = date-and-time ∙ (rw (no-offset (v .offset), date-width true) at (text-stored l Datetime d v))
+  image-stored : (lent left : List ℕ) → n ≤ length lent → left ≡ sets lent 0 (textImage k d v) → Left (encodeIn k (text d) v) lent 0 n left
+  unfolding imageIn hasForm
+  image-stored lent left l s =
+      let e = laws.text-length k d v in-range (r .few) in
+      rw in-range (stored (textImage k d v) lent left n (r .long ∙ sym e) (omega (arith, r .long, e)) s)
 
-    pub datetime-tz-text : (g : List ℕ) (n : ℕ) → n ≡ width (fractionField d) → g ≡ sets f (19 + n) (offsetOctets true (v .offset))
-        → g ≡ sets l 0 (textImage DatetimeTz d v)
-    datetime-tz-text g n h s =
-        let e : widths (dateRow true) + widths (clockRow true true d) ≡ 19 + n = omega (arith, date-width true, clock-width true d) in
-        s ∙ rw date-and-time (rw (e, date-width true) at (text-stored l DatetimeTz d v))
+  -- b and c are the buffer behind the date and behind the time
+  module _ {lent b c : List ℕ} (room : n ≤ length lent) (date : b ≡ sets lent 0 (dateOctets (dated k) (v .date)))
+      (time : c ≡ sets b (ifAny (dated k) 10) (clockOctets (timed k) (dated k) d (v .micros))) where
+    parts-stored : (left : List ℕ) → left ≡ sets c (widths (dateRow (dated k)) + widths (clockRow (timed k) (dated k) d)) (offsetOctets (zoned k) (v .offset))
+        → Left (encodeIn k (text d) v) lent 0 n left
+    parts-stored left e = image-stored lent left room (e ∙ rw (time, date, ← date-width (dated k)) (text-stored lent k d v))
+
+    pub written : zoned k ≡ false → Left (encodeIn k (text d) v) lent 0 n c
+    written z = parts-stored c (rw z (no-offset c _ (v .offset)))
+
+    pub written-zone : zoned k ≡ true → {left : List ℕ} → (at : ℕ) → at + 6 ≡ n → left ≡ sets c at (offsetOctets true (v .offset)) → Left (encodeIn k (text d) v) lent 0 n left
+    written-zone z {left} at e s =
+        let six : widths (offsetRow (zoned k)) ≡ 6 = rw z (zone-width true) in
+        let there : at ≡ widths (dateRow (dated k)) + widths (clockRow (timed k) (dated k) d) = omega (arith, six, e, r .long, parts-long k d) in
+        parts-stored left (rw (← there, z) s)

@@ -19,13 +19,12 @@ use Rattle.format.specs.TextReading.{digitsFound, minusZero, clockInRange, numb
 use Rattle.format.specs.Reading.{readIn, readAs}
 use Rattle.format.proofs.Cases.{both-false, lt-or-le, eq-or-ne}
 use Rattle.format.proofs.Clock.{seven}
-use Rattle.format.proofs.Fields.{Whole, widths-append, fit-append}
+use Rattle.format.proofs.Fields.{Whole, fit-append}
 use Rattle.format.proofs.Choosing.{found-fits}
 use Rattle.text.specs.declared.parts.Zone.{Zone}
 use Rattle.text.specs.Parts.{minusOf, offsetOf}
 use Rattle.text.specs.Outcomes.{clockFits, outcomeOf}
-use Rattle.text.proofs.Rows.{joined}
-use Rattle.text.proofs.Wholes.{grouped}
+use Rattle.text.proofs.Rows.{joined, grouped}
 
 -- ---- the whole text
 
@@ -124,11 +123,6 @@ module _ (k : Kind) (d : ℕ) (s : List ℕ) (l : d ≤ 6) where
   no-offset q h e =
       let c = fit (clockRow (timed k) (dated k) d) s (widths (dateRow (dated k))) in
       unfit (layout-fit ∙ rw (rw h at e, both-false c) (both-false (fit (dateRow (dated k)) s 0)))
-
-pub parts-long : (k : Kind) (d : ℕ) → textLength k d ≡ widths (dateRow (dated k)) + (widths (clockRow (timed k) (dated k) d) + widths (offsetRow (zoned k)))
-unfolding textLength layout
-parts-long k d =
-    omega (arith, widths-append (dateRow (dated k)) (clockRow (timed k) (dated k) d ++ offsetRow (zoned k)), widths-append (clockRow (timed k) (dated k) d) (offsetRow (zoned k)))
 
 -- ---- 7, 8 and the value
 

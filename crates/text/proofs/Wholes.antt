@@ -1,47 +1,63 @@
 -- The rows of a text: how wide each is, a clock's from its pairs and its fraction, alone and behind a date, and a date's with its `T`. Assumes nothing.
 use mathlib.Core.Path.{_≡_, refl, sym, _∙_}
 use mathlib.Core.Logic.{⊎-elim}
-use mathlib.Core.Bool.{Bool, true, false}
+use mathlib.Core.Bool.{Bool, true, false, not}
 use mathlib.Core.List.{List, [], _∷_, _++_}
 use Prim.Native.Nat.{ℕ, suc, _+_, _*_, _<_, _≤_}
 use native.Mathlib.Omega.{arith}
 use lib.Dec.{eqb}
 use lib.ListN.{getD}
 use borrow.Author.Tests.{ne-eqb}
-use Rattle.format.specs.Words.{both, accepted, refused}
+use Rattle.format.specs.Words.{both, ifAny, accepted, refused}
 use Rattle.format.specs.Digits.{areDigits}
-use Rattle.format.specs.Fields.{Field, width, fitsAt, saysAt, widths, fit, says}
-use Rattle.format.specs.Text.{dateRow, clockRow, offsetRow, fractionUnit}
+use Rattle.format.specs.Values.{Kind, dated, timed, zoned}
+use Rattle.format.specs.Fields.{Field, after, when, width, fitsAt, saysAt, widths, fit, says}
+use Rattle.format.specs.Text.{dateRow, clockRow, offsetRow, layout, textLength, fractionUnit}
 use Rattle.format.proofs.Cases.{both-true, passed, failed, same, eq-or-ne}
 use Rattle.format.proofs.Decimal.{number-small}
-use Rattle.format.proofs.Fields.{Whole, fit-append, says-append}
+use Rattle.format.proofs.Fields.{Whole, widths-append, fit-append, says-append}
 use Rattle.text.specs.Putting.{fractionField}
 use Rattle.text.specs.Pairs.{partAt}
 use Rattle.text.specs.Cursors.{joinedAt}
-use Rattle.text.proofs.Rows.{only}
+use Rattle.text.proofs.Rows.{only, grouped}
 use Rattle.text.proofs.PartLaws.{pairsRow, part-small}
 
--- ---- lengths
+-- ---- how wide the rows are
 
-pub date-width : widths (dateRow true) ≡ 10
+pub date-width : (b : Bool) → widths (dateRow b) ≡ ifAny b 10
 unfolding widths width
-date-width = refl
+date-width true = refl
+date-width false = refl
 
-pub clock-width : (d : ℕ) → widths (clockRow true true d) ≡ 9 + width (fractionField d)
+-- `T` before the time where there is a date
+pub clock-width : (t b : Bool) (d : ℕ) → widths (clockRow t b d) ≡ ifAny t (ifAny b 1 + 8 + width (fractionField d))
 unfolding widths width
-clock-width d = omega arith
+clock-width true true d = omega arith
+clock-width true false d = omega arith
+clock-width false b d = refl
 
-pub alone-width : (d : ℕ) → widths (clockRow true false d) ≡ 8 + width (fractionField d)
+pub zone-width : (b : Bool) → widths (offsetRow b) ≡ ifAny b 6
 unfolding widths width
-alone-width d = omega arith
+zone-width true = refl
+zone-width false = refl
 
-pub no-clock-width : (b : Bool) (d : ℕ) → widths (clockRow false b d) ≡ 0
-unfolding widths width
-no-clock-width b d = refl
+-- the whole text
+pub parts-long : (k : Kind) (d : ℕ) → textLength k d ≡ widths (dateRow (dated k)) + (widths (clockRow (timed k) (dated k) d) + widths (offsetRow (zoned k)))
+unfolding textLength layout
+parts-long k d =
+    omega (arith, widths-append (dateRow (dated k)) (clockRow (timed k) (dated k) d ++ offsetRow (zoned k)), widths-append (clockRow (timed k) (dated k) d) (offsetRow (zoned k)))
 
-pub zone-width : widths (offsetRow true) ≡ 6
-unfolding widths width
-zone-width = refl
+pub text-long : (k : Kind) (d : ℕ)
+    → textLength k d ≡ ifAny (dated k) 10 + (ifAny (timed k) (ifAny (dated k) 1 + 8 + width (fractionField d)) + ifAny (zoned k) 6)
+text-long k d = parts-long k d ∙ rw (date-width (dated k), clock-width (timed k) (dated k) d, zone-width (zoned k))
+
+pub fraction-narrow : (d : ℕ) → width (fractionField d) ≤ d + 1
+unfolding width
+fraction-narrow d = go (eqb d 0)
+  where
+    go : (b : Bool) → width (when (not b) (after 46 d)) ≤ d + 1
+    go true = unfold width in omega arith
+    go false = unfold width in omega arith
 
 -- ---- rows that are whole
 
@@ -73,10 +89,6 @@ pairs-width m = refl
 none-said : (s : List ℕ) (at : ℕ) → saysAt (fractionField 0) s at * fractionUnit 0 < 1000000
 unfolding saysAt fractionUnit
 none-said s at = omega arith
-
-pub grouped : (a b c : Bool) → both (both a b) c ≡ both a (both b c)
-grouped true b c = refl
-grouped false b c = refl
 
 module _ (d : ℕ) (s : List ℕ) where
   -- a time alone: its three pairs, and its fraction

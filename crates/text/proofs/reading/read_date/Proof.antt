@@ -2,9 +2,10 @@
 use mathlib.Core.Path.{refl}
 use denote.Ref.{now}
 use Rattle.format.specs.Values.{Date}
+use Rattle.text.proofs.Rows.{passes}
 use Rattle.text.proofs.Texts.{too-many}
 use Rattle.text.proofs.Places.{Opened, AfterDate, AfterAll, noClock, noZone, date-room, date-wrong, date-read, unzoned}
-use Rattle.text.proofs.Answering.{passes, unsigned, no-day, stamped, no-minutes}
+use Rattle.text.proofs.Answering.{unsigned, no-day, stamped, no-minutes}
 use borrow.Author.Needs.{needs}
 use Rattle.text.proofs.reading.read_date.Statement.{statement}
 use Rattle.text.proofs.reading.read_date.Tie as tie

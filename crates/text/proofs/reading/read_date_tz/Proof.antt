@@ -2,9 +2,10 @@
 use mathlib.Core.Path.{refl}
 use denote.Ref.{now}
 use Rattle.format.specs.Values.{DateTz}
+use Rattle.text.proofs.Rows.{passes}
 use Rattle.text.proofs.Texts.{too-many}
 use Rattle.text.proofs.Places.{Opened, AfterDate, AfterAll, noClock, date-room, date-wrong, date-read, zone-room, zone-wrong, zone-read}
-use Rattle.text.proofs.Answering.{passes, is-redundant, AfterSign, not-redundant, no-day, no-zone, stamped, zone-small}
+use Rattle.text.proofs.Answering.{is-redundant, AfterSign, not-redundant, no-day, no-zone, stamped, zone-small}
 use borrow.Author.Needs.{needs}
 use Rattle.text.proofs.reading.read_date_tz.Statement.{statement}
 use Rattle.text.proofs.reading.read_date_tz.Tie as tie

@@ -2,9 +2,10 @@
 use mathlib.Core.Path.{refl}
 use denote.Ref.{now}
 use Rattle.format.specs.Values.{Datetime}
+use Rattle.text.proofs.Rows.{passes}
 use Rattle.text.proofs.Texts.{too-many}
 use Rattle.text.proofs.Places.{Opened, AfterJoint, AfterClock, AfterPart, AfterAll, noZone, joined-room, joined-wrong, joined-read, clock-room, clock-wrong, clock-read, clock-small, part-room, part-wrong, part-read, unzoned}
-use Rattle.text.proofs.Answering.{passes, unsigned, no-day, no-time, stamped, no-minutes}
+use Rattle.text.proofs.Answering.{unsigned, no-day, no-time, stamped, no-minutes}
 use borrow.Author.Needs.{needs}
 use Rattle.text.proofs.reading.read_datetime.Statement.{statement}
 use Rattle.text.proofs.reading.read_datetime.Tie as tie

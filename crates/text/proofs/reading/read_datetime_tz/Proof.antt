@@ -2,9 +2,10 @@
 use mathlib.Core.Path.{refl}
 use denote.Ref.{now}
 use Rattle.format.specs.Values.{DatetimeTz}
+use Rattle.text.proofs.Rows.{passes}
 use Rattle.text.proofs.Texts.{too-many}
 use Rattle.text.proofs.Places.{Opened, AfterJoint, AfterClock, AfterPart, AfterAll, joined-room, joined-wrong, joined-read, clock-room, clock-wrong, clock-read, clock-small, part-room, part-wrong, part-read, zone-room, zone-wrong, zone-read}
-use Rattle.text.proofs.Answering.{passes, is-redundant, AfterSign, not-redundant, no-day, no-time, no-zone, stamped, zone-small}
+use Rattle.text.proofs.Answering.{is-redundant, AfterSign, not-redundant, no-day, no-time, no-zone, stamped, zone-small}
 use borrow.Author.Needs.{needs}
 use Rattle.text.proofs.reading.read_datetime_tz.Statement.{statement}
 use Rattle.text.proofs.reading.read_datetime_tz.Tie as tie

@@ -4,9 +4,10 @@ use denote.Ref.{now}
 use Rattle.format.specs.Calendar.{noDate}
 use Rattle.format.specs.Values.{Time}
 use Rattle.calendar.specs.Meaning.{dayFrom}
+use Rattle.text.proofs.Rows.{passes}
 use Rattle.text.proofs.Texts.{too-many}
 use Rattle.text.proofs.Places.{AfterClock, AfterPart, AfterAll, Front, noZone, alone, clock-room, clock-wrong, clock-read, clock-small, part-room, part-wrong, part-read, unzoned}
-use Rattle.text.proofs.Answering.{passes, unsigned, no-time, stamped, no-minutes}
+use Rattle.text.proofs.Answering.{unsigned, no-time, stamped, no-minutes}
 use borrow.Author.Needs.{needs}
 use Rattle.text.proofs.reading.read_time.Statement.{statement}
 use Rattle.text.proofs.reading.read_time.Tie as tie

@@ -4,9 +4,10 @@ use denote.Ref.{now}
 use Rattle.format.specs.Calendar.{noDate}
 use Rattle.format.specs.Values.{TimeTz}
 use Rattle.calendar.specs.Meaning.{dayFrom}
+use Rattle.text.proofs.Rows.{passes}
 use Rattle.text.proofs.Texts.{too-many}
 use Rattle.text.proofs.Places.{AfterClock, AfterPart, AfterAll, Front, alone, clock-room, clock-wrong, clock-read, clock-small, part-room, part-wrong, part-read, zone-room, zone-wrong, zone-read}
-use Rattle.text.proofs.Answering.{passes, is-redundant, AfterSign, not-redundant, no-time, no-zone, stamped, zone-small}
+use Rattle.text.proofs.Answering.{is-redundant, AfterSign, not-redundant, no-time, no-zone, stamped, zone-small}
 use borrow.Author.Needs.{needs}
 use Rattle.text.proofs.reading.read_time_tz.Statement.{statement}
 use Rattle.text.proofs.reading.read_time_tz.Tie as tie

@@ -1,55 +1,45 @@
--- `write_date` meets its contract: a part out of its range; the buffer too short; the parts stored, each at its place. Below, a is the start, p
--- the place behind the ranges. Assumes nothing.
-use mathlib.Core.Path.{refl, sym, _∙_}
+-- `write_date` meets its contract: a part out of its range; the buffer too short; the parts stored, each at its place. Assumes nothing.
+use mathlib.Core.Path.{refl}
 use native.Mathlib.Omega.{arith}
-use denote.Ref.{now}
 use Rattle.format.specs.Values.{Date}
-use Rattle.format.proofs.Cases.{not-true, not-false}
-use Rattle.format.proofs.Text.{InRange}
-use Rattle.format.proofs.Text as laws
 use Rattle.values.specs.Meaning.{valueFrom}
-use Rattle.text.proofs.TextWriters.{date-refused, no-room, written, date-length, date-text}
+use Rattle.text.proofs.Rows.{passes}
+use Rattle.text.proofs.Wholes.{text-long}
+use Rattle.text.proofs.TextWriters.{Ready, date-refused, no-time, no-room, written}
 use borrow.Author.Needs.{needs}
 use Rattle.text.proofs.writers.write_date.Statement.{statement}
 use Rattle.text.proofs.writers.write_date.Tie as tie
 
--- each part that the kind has is in its range
-ranges : (c : tie.Else1) → InRange Date (valueFrom (c .before .before .before .before .args .value))
-ranges c =
+abbrev start : tie.Else1 → tie.Start
+start c = c .before .before .before .before
+
+ready : (c : tie.Else1) → Ready Date 0 (valueFrom (start c .args .value)) 10
+ready c =
     record {
-      date = sym (c .before .in-range .ensures) ∙ not-false _ (c .if1 .left);
-      time = refl;
-      offset = refl;
+      ranges = record { date = passes (c .before .in-range .ensures) (c .if1 .left); time = refl; offset = refl };
+      few = omega arith;
+      long = omega (arith, text-long Date 0);
     }
 
 in-range-requires : tie.Need-in-range-requires
 in-range-requires c κs = search needs
 
 returns : tie.Need-returns
-returns c =
-    let a = c .before .before .before .before in
-    date-refused Date 0 (valueFrom (a .args .value)) (now (a .args .buf)) refl (sym (c .before .in-range .ensures) ∙ not-true _ (c .if1 .taken))
+returns c = date-refused Date 0 _ _ refl (c .before .in-range .ensures) (c .if1 .taken)
 
 returns-2 : tie.Need-returns-2
-returns-2 c =
-    let p = c .before in
-    let a = p .before .before .before .before in
-    let v = valueFrom (a .args .value) in
-    no-room Date 0 v (now (a .args .buf)) (laws.range-in Date v (ranges p)) (omega arith) 10 date-length (c .if2 .taken)
+returns-2 c = no-room (ready (c .before)) _ (c .if2 .taken)
 
 put-date-requires : tie.Need-put-date-requires
-put-date-requires c κs = (ranges (c .before .before) .date, search needs)
+put-date-requires c κs = (ready (c .before .before) .ranges .date, search needs)
 
 same-length : tie.Need-same-length
 same-length c = search needs
 
 returns-3 : tie.Need-returns-3
 returns-3 c =
-    let p = c .before .before .before .before .before in
-    let a = p .before .before .before .before in
-    let v = valueFrom (a .args .value) in
-    written Date 0 v (now (a .args .buf)) (laws.range-in Date v (ranges p)) (omega arith) 10 date-length (omega (arith, c .before .before .before .before .if2 .left)) _
-    (date-text (now (a .args .buf)) v _ (c .before .before .put-date .ensures))
+    let room = c .before .before .before .before in
+    written (ready (room .before)) (room .if2 .left) (c .before .before .put-date .ensures) (no-time _ _ _ _) refl
 
 pub write-date-spec : {M : Type 1} → statement M
 write-date-spec =

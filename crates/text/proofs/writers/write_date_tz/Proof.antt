@@ -1,66 +1,56 @@
--- `write_date_tz` meets its contract: a part out of its range; the buffer too short; the parts stored, each at its place. Below, a is the start, p
--- the place behind the ranges. Assumes nothing.
-use mathlib.Core.Path.{refl, sym, _∙_}
+-- `write_date_tz` meets its contract: a part out of its range; the buffer too short; the parts stored, each at its place. Assumes nothing.
+use mathlib.Core.Path.{refl}
 use native.Mathlib.Omega.{arith}
-use denote.Ref.{now}
 use Rattle.format.specs.Values.{DateTz}
-use Rattle.format.proofs.Cases.{not-true, not-false}
-use Rattle.format.proofs.Text.{InRange}
-use Rattle.format.proofs.Text as laws
 use Rattle.values.specs.Meaning.{valueFrom}
-use Rattle.text.proofs.TextWriters.{date-refused, offset-refused, no-room, written, date-tz-length, date-tz-text}
+use Rattle.text.proofs.Rows.{passes}
+use Rattle.text.proofs.Wholes.{text-long}
+use Rattle.text.proofs.TextWriters.{Ready, date-refused, offset-refused, no-time, no-room, written-zone}
 use borrow.Author.Needs.{needs}
 use Rattle.text.proofs.writers.write_date_tz.Statement.{statement}
 use Rattle.text.proofs.writers.write_date_tz.Tie as tie
 
--- each part that the kind has is in its range
-ranges : (c : tie.Else2) → InRange DateTz (valueFrom (c .before .before .before .before .before .before .before .args .value))
-ranges c =
+abbrev start : tie.Else2 → tie.Start
+start c = c .before .before .before .before .before .before .before
+
+ready : (c : tie.Else2) → Ready DateTz 0 (valueFrom (start c .args .value)) 16
+ready c =
+    let date = c .before .before in
     record {
-      date = sym (c .before .before .before .in-range .ensures) ∙ not-false _ (c .before .before .if1 .left);
-      time = refl;
-      offset = sym (c .before .in-range2 .ensures) ∙ not-false _ (c .if2 .left);
+      ranges = record { date = passes (date .before .in-range .ensures) (date .if1 .left); time = refl; offset = passes (c .before .in-range2 .ensures) (c .if2 .left) };
+      few = omega arith;
+      long = omega (arith, text-long DateTz 0);
     }
 
 in-range-requires : tie.Need-in-range-requires
 in-range-requires c κs = search needs
 
 returns : tie.Need-returns
-returns c =
-    let a = c .before .before .before .before .before in
-    date-refused DateTz 0 (valueFrom (a .args .value)) (now (a .args .buf)) refl (sym (c .before .in-range .ensures) ∙ not-true _ (c .if1 .taken))
+returns c = date-refused DateTz 0 _ _ refl (c .before .in-range .ensures) (c .if1 .taken)
 
 in-range-requires-2 : tie.Need-in-range-requires-2
 in-range-requires-2 c κs = search needs
 
 returns-2 : tie.Need-returns-2
-returns-2 c =
-    let a = c .before .before .before .before .before .before .before in
-    offset-refused DateTz 0 (valueFrom (a .args .value)) (now (a .args .buf)) refl (sym (c .before .in-range2 .ensures) ∙ not-true _ (c .if2 .taken))
+returns-2 c = offset-refused DateTz 0 _ _ refl (c .before .in-range2 .ensures) (c .if2 .taken)
 
 returns-3 : tie.Need-returns-3
-returns-3 c =
-    let p = c .before in
-    let a = p .before .before .before .before .before .before .before in
-    let v = valueFrom (a .args .value) in
-    no-room DateTz 0 v (now (a .args .buf)) (laws.range-in DateTz v (ranges p)) (omega arith) 16 date-tz-length (c .if3 .taken)
+returns-3 c = no-room (ready (c .before)) _ (c .if3 .taken)
 
 put-date-requires : tie.Need-put-date-requires
-put-date-requires c κs = (ranges (c .before .before) .date, search needs)
+put-date-requires c κs = (ready (c .before .before) .ranges .date, search needs)
 
 put-offset-requires : tie.Need-put-offset-requires
-put-offset-requires c κs = (ranges (c .before .before .before .before .before .before) .offset, search needs)
+put-offset-requires c κs = (ready (c .before .before .before .before .before .before) .ranges .offset, search needs)
 
 same-length : tie.Need-same-length
 same-length c = search needs
 
 returns-4 : tie.Need-returns-4
 returns-4 c =
-    let p = c .before .before .before .before .before .before .before .before .before in
-    let a = p .before .before .before .before .before .before .before in
-    let v = valueFrom (a .args .value) in
-    written DateTz 0 v (now (a .args .buf)) (laws.range-in DateTz v (ranges p)) (omega arith) 16 date-tz-length (omega (arith, c .before .before .before .before .before .before .before .before .if3 .left)) _
-    (date-tz-text (now (a .args .buf)) v _ _ (c .before .before .before .before .before .before .put-date .ensures) (c .before .before .put-offset .ensures))
+    let date = c .before .before .before .before .before .before in
+    let room = date .before .before in
+    written-zone (ready (room .before)) (room .if3 .left) (date .put-date .ensures) (no-time _ _ _ _) refl 10 refl (c .before .before .put-offset .ensures)
 
 pub write-date-tz-spec : {M : Type 1} → statement M
 write-date-tz-spec =

@@ -1,81 +1,70 @@
--- `write_datetime` meets its contract: a part out of its range; the buffer too short; the parts stored, each at its place. Below, a is the start, p
--- the place behind the ranges, l that behind `fraction_length`. Assumes nothing.
-use mathlib.Core.Path.{refl, sym, _∙_, ap}
-use Prim.Native.Nat.{ℕ, _+_}
+-- `write_datetime` meets its contract: a part out of its range; the buffer too short; the parts stored, each at its place. Assumes nothing.
+use mathlib.Core.Path.{refl}
+use Prim.Native.Nat.{_+_}
 use native.Mathlib.Omega.{arith}
-use denote.Ref.{now}
 use Rattle.format.specs.Values.{Datetime}
-use Rattle.format.proofs.Cases.{not-true, not-false}
-use Rattle.format.proofs.Text.{InRange}
-use Rattle.format.proofs.Text as laws
 use Rattle.values.specs.Meaning.{valueFrom}
-use Rattle.text.proofs.Putting.{fraction-narrow}
-use Rattle.text.proofs.TextWriters.{date-refused, time-refused, no-room, written, datetime-length, datetime-text}
+use Rattle.text.proofs.Rows.{passes}
+use Rattle.text.proofs.Wholes.{text-long}
+use Rattle.text.proofs.TextWriters.{Ready, date-refused, time-refused, joined-time, no-room, small, written}
 use borrow.Author.Needs.{needs}
 use Rattle.text.proofs.writers.write_datetime.Statement.{statement}
 use Rattle.text.proofs.writers.write_datetime.Tie as tie
 
--- each part that the kind has is in its range
-ranges : (c : tie.Else2) → InRange Datetime (valueFrom (c .before .before .before .before .before .before .before .args .value))
-ranges c =
+abbrev start : tie.After-fraction-length → tie.Start
+start c = c .before .before .before .before .before .before .before .before
+
+ready : (c : tie.After-fraction-length) → Ready Datetime (start c .args .digits) (valueFrom (start c .args .value)) (19 + c .fraction-length .result)
+ready c =
+    let time = c .before in
+    let date = time .before .before in
     record {
-      date = sym (c .before .before .before .in-range .ensures) ∙ not-false _ (c .before .before .if1 .left);
-      time = sym (c .before .in-range2 .ensures) ∙ not-false _ (c .if2 .left);
-      offset = refl;
+      ranges = record { date = passes (date .before .in-range .ensures) (date .if1 .left); time = passes (time .before .in-range2 .ensures) (time .if2 .left); offset = refl };
+      few = start c .pre;
+      long = omega (arith, text-long Datetime (start c .args .digits), c .fraction-length .ensures);
     }
 
 in-range-requires : tie.Need-in-range-requires
 in-range-requires c κs = search needs
 
 returns : tie.Need-returns
-returns c =
-    let a = c .before .before .before .before .before in
-    date-refused Datetime (a .args .digits) (valueFrom (a .args .value)) (now (a .args .buf)) refl (sym (c .before .in-range .ensures) ∙ not-true _ (c .if1 .taken))
+returns c = date-refused Datetime _ _ _ refl (c .before .in-range .ensures) (c .if1 .taken)
 
 in-range-requires-2 : tie.Need-in-range-requires-2
 in-range-requires-2 c κs = search needs
 
 returns-2 : tie.Need-returns-2
-returns-2 c =
-    let a = c .before .before .before .before .before .before .before in
-    time-refused Datetime (a .args .digits) (valueFrom (a .args .value)) (now (a .args .buf)) refl (sym (c .before .in-range2 .ensures) ∙ not-true _ (c .if2 .taken))
+returns-2 c = time-refused Datetime _ _ _ refl (c .before .in-range2 .ensures) (c .if2 .taken)
 
 fraction-length-requires : tie.Need-fraction-length-requires
 fraction-length-requires c κs = search needs
 
 add-length : tie.Need-add-length
-add-length c =
-    let a = c .before .before .before .before .before .before .before .before in
-    omega (arith, c .fraction-length .ensures, fraction-narrow (a .args .digits), a .pre)
+add-length c = omega (arith, small (ready c))
 
 returns-3 : tie.Need-returns-3
-returns-3 c =
-    let l = c .before in
-    let p = l .before in
-    let a = p .before .before .before .before .before .before .before in
-    let v = valueFrom (a .args .value) in
-    no-room Datetime (a .args .digits) v (now (a .args .buf)) (laws.range-in Datetime v (ranges p)) (a .pre) _ (ap (λ (w : ℕ). 19 + w) (l .fraction-length .ensures) ∙ datetime-length (a .args .digits)) (c .if3 .taken)
+returns-3 c = no-room (ready (c .before)) _ (c .if3 .taken)
 
 put-date-requires : tie.Need-put-date-requires
-put-date-requires c κs = (ranges (c .before .before .before) .date, search needs)
+put-date-requires c κs = (ready (c .before .before) .ranges .date, search needs)
 
 put-joint-requires : tie.Need-put-joint-requires
 put-joint-requires c κs = search needs
 
 put-time-requires : tie.Need-put-time-requires
-put-time-requires c κs = (ranges (c .before .before .before .before .before .before .before .before .before .before .before) .time, c .before .before .before .before .before .before .before .before .before .before .before .before .before .before .before .before .before .before .pre, search needs)
+put-time-requires c κs =
+    let r = ready (c .before .before .before .before .before .before .before .before .before .before) in (r .ranges .time, r .few, search needs)
 
 same-length : tie.Need-same-length
 same-length c = search needs
 
 returns-4 : tie.Need-returns-4
 returns-4 c =
-    let l = c .before .before .before .before .before .before .before .before .before .before .before .before .before in
-    let p = l .before in
-    let a = p .before .before .before .before .before .before .before in
-    let v = valueFrom (a .args .value) in
-    written Datetime (a .args .digits) v (now (a .args .buf)) (laws.range-in Datetime v (ranges p)) (a .pre) _ (ap (λ (w : ℕ). 19 + w) (l .fraction-length .ensures) ∙ datetime-length (a .args .digits)) (omega (arith, c .before .before .before .before .before .before .before .before .before .before .before .before .if3 .left)) _
-    (datetime-text (now (a .args .buf)) (a .args .digits) v _ _ _ (c .before .before .before .before .before .before .before .before .before .before .put-date .ensures) (c .before .before .before .before .before .before .put-joint .ensures) (c .before .before .put-time .ensures))
+    let joint = c .before .before .before .before .before .before in
+    let date = joint .before .before .before .before in
+    let room = date .before .before in
+    let stored = date .put-date .ensures in
+    written (ready (room .before)) (room .if3 .left) stored (joined-time stored _ _ (joint .put-joint .ensures) (c .before .before .put-time .ensures)) refl
 
 pub write-datetime-spec : {M : Type 1} → statement M
 write-datetime-spec =

@@ -1,97 +1,84 @@
--- `write_datetime_tz` meets its contract: a part out of its range; the buffer too short; the parts stored, each at its place. Below, a is the start, p
--- the place behind the ranges, l that behind `fraction_length`. Assumes nothing.
-use mathlib.Core.Path.{refl, sym, _∙_, ap}
-use Prim.Native.Nat.{ℕ, _+_}
+-- `write_datetime_tz` meets its contract: a part out of its range; the buffer too short; the parts stored, each at its place. Assumes nothing.
+use mathlib.Core.Path.{refl}
+use Prim.Native.Nat.{_+_}
 use native.Mathlib.Omega.{arith}
-use denote.Ref.{now}
 use Rattle.format.specs.Values.{DatetimeTz}
-use Rattle.format.proofs.Cases.{not-true, not-false}
-use Rattle.format.proofs.Text.{InRange}
-use Rattle.format.proofs.Text as laws
 use Rattle.values.specs.Meaning.{valueFrom}
-use Rattle.text.proofs.Putting.{fraction-narrow}
-use Rattle.text.proofs.TextWriters.{date-refused, time-refused, offset-refused, no-room, written, datetime-tz-length, datetime-tz-text}
+use Rattle.text.proofs.Rows.{passes}
+use Rattle.text.proofs.Wholes.{text-long}
+use Rattle.text.proofs.TextWriters.{Ready, date-refused, time-refused, offset-refused, joined-time, no-room, small, written-zone}
 use borrow.Author.Needs.{needs}
 use Rattle.text.proofs.writers.write_datetime_tz.Statement.{statement}
 use Rattle.text.proofs.writers.write_datetime_tz.Tie as tie
 
--- each part that the kind has is in its range
-ranges : (c : tie.Else3) → InRange DatetimeTz (valueFrom (c .before .before .before .before .before .before .before .before .before .before .args .value))
-ranges c =
+abbrev start : tie.After-fraction-length → tie.Start
+start c = c .before .before .before .before .before .before .before .before .before .before .before
+
+ready : (c : tie.After-fraction-length) → Ready DatetimeTz (start c .args .digits) (valueFrom (start c .args .value)) (19 + c .fraction-length .result + 6)
+ready c =
+    let offset = c .before in
+    let time = offset .before .before in
+    let date = time .before .before in
     record {
-      date = sym (c .before .before .before .before .before .in-range .ensures) ∙ not-false _ (c .before .before .before .before .if1 .left);
-      time = sym (c .before .before .before .in-range2 .ensures) ∙ not-false _ (c .before .before .if2 .left);
-      offset = sym (c .before .in-range3 .ensures) ∙ not-false _ (c .if3 .left);
+      ranges = record { date = passes (date .before .in-range .ensures) (date .if1 .left); time = passes (time .before .in-range2 .ensures) (time .if2 .left); offset = passes (offset .before .in-range3 .ensures) (offset .if3 .left) };
+      few = start c .pre;
+      long = omega (arith, text-long DatetimeTz (start c .args .digits), c .fraction-length .ensures);
     }
 
 in-range-requires : tie.Need-in-range-requires
 in-range-requires c κs = search needs
 
 returns : tie.Need-returns
-returns c =
-    let a = c .before .before .before .before .before .before in
-    date-refused DatetimeTz (a .args .digits) (valueFrom (a .args .value)) (now (a .args .buf)) refl (sym (c .before .in-range .ensures) ∙ not-true _ (c .if1 .taken))
+returns c = date-refused DatetimeTz _ _ _ refl (c .before .in-range .ensures) (c .if1 .taken)
 
 in-range-requires-2 : tie.Need-in-range-requires-2
 in-range-requires-2 c κs = search needs
 
 returns-2 : tie.Need-returns-2
-returns-2 c =
-    let a = c .before .before .before .before .before .before .before .before in
-    time-refused DatetimeTz (a .args .digits) (valueFrom (a .args .value)) (now (a .args .buf)) refl (sym (c .before .in-range2 .ensures) ∙ not-true _ (c .if2 .taken))
+returns-2 c = time-refused DatetimeTz _ _ _ refl (c .before .in-range2 .ensures) (c .if2 .taken)
 
 in-range-requires-3 : tie.Need-in-range-requires-3
 in-range-requires-3 c κs = search needs
 
 returns-3 : tie.Need-returns-3
-returns-3 c =
-    let a = c .before .before .before .before .before .before .before .before .before .before in
-    offset-refused DatetimeTz (a .args .digits) (valueFrom (a .args .value)) (now (a .args .buf)) refl (sym (c .before .in-range3 .ensures) ∙ not-true _ (c .if3 .taken))
+returns-3 c = offset-refused DatetimeTz _ _ _ refl (c .before .in-range3 .ensures) (c .if3 .taken)
 
 fraction-length-requires : tie.Need-fraction-length-requires
 fraction-length-requires c κs = search needs
 
 add-zone : tie.Need-add-zone
-add-zone c =
-    let a = c .before .before .before .before .before .before .before .before .before .before .before in
-    omega (arith, c .fraction-length .ensures, fraction-narrow (a .args .digits), a .pre)
+add-zone c = omega (arith, small (ready c))
 
 add-length : tie.Need-add-length
-add-length c =
-    let a = c .before .before .before .before .before .before .before .before .before .before .before in
-    omega (arith, c .fraction-length .ensures, fraction-narrow (a .args .digits), a .pre)
+add-length c = omega (arith, small (ready c))
 
 returns-4 : tie.Need-returns-4
-returns-4 c =
-    let l = c .before in
-    let p = l .before in
-    let a = p .before .before .before .before .before .before .before .before .before .before in
-    let v = valueFrom (a .args .value) in
-    no-room DatetimeTz (a .args .digits) v (now (a .args .buf)) (laws.range-in DatetimeTz v (ranges p)) (a .pre) _ (ap (λ (w : ℕ). 19 + w + 6) (l .fraction-length .ensures) ∙ datetime-tz-length (a .args .digits)) (c .if4 .taken)
+returns-4 c = no-room (ready (c .before)) _ (c .if4 .taken)
 
 put-date-requires : tie.Need-put-date-requires
-put-date-requires c κs = (ranges (c .before .before .before) .date, search needs)
+put-date-requires c κs = (ready (c .before .before) .ranges .date, search needs)
 
 put-joint-requires : tie.Need-put-joint-requires
 put-joint-requires c κs = search needs
 
 put-time-requires : tie.Need-put-time-requires
-put-time-requires c κs = (ranges (c .before .before .before .before .before .before .before .before .before .before .before) .time, c .before .before .before .before .before .before .before .before .before .before .before .before .before .before .before .before .before .before .before .before .before .pre, search needs)
+put-time-requires c κs =
+    let r = ready (c .before .before .before .before .before .before .before .before .before .before) in (r .ranges .time, r .few, search needs)
 
 put-offset-requires : tie.Need-put-offset-requires
-put-offset-requires c κs = (ranges (c .before .before .before .before .before .before .before .before .before .before .before .before .before .before .before) .offset, search needs)
+put-offset-requires c κs = (ready (c .before .before .before .before .before .before .before .before .before .before .before .before .before .before) .ranges .offset, search needs)
 
 same-length : tie.Need-same-length
 same-length c = search needs
 
 returns-5 : tie.Need-returns-5
 returns-5 c =
-    let l = c .before .before .before .before .before .before .before .before .before .before .before .before .before .before .before .before .before in
-    let p = l .before in
-    let a = p .before .before .before .before .before .before .before .before .before .before in
-    let v = valueFrom (a .args .value) in
-    written DatetimeTz (a .args .digits) v (now (a .args .buf)) (laws.range-in DatetimeTz v (ranges p)) (a .pre) _ (ap (λ (w : ℕ). 19 + w + 6) (l .fraction-length .ensures) ∙ datetime-tz-length (a .args .digits)) (omega (arith, c .before .before .before .before .before .before .before .before .before .before .before .before .before .before .before .before .if4 .left)) _
-    (datetime-tz-text (now (a .args .buf)) (a .args .digits) v _ _ _ (c .before .before .before .before .before .before .before .before .before .before .before .before .before .before .put-date .ensures) (c .before .before .before .before .before .before .before .before .before .before .put-joint .ensures) (c .before .before .before .before .before .before .put-time .ensures) _ _ (l .fraction-length .ensures) (c .before .before .put-offset .ensures))
+    let time = c .before .before .before .before .before .before in
+    let joint = time .before .before .before .before in
+    let date = joint .before .before .before .before in
+    let room = date .before .before in
+    let stored = date .put-date .ensures in
+    written-zone (ready (room .before)) (room .if4 .left) stored (joined-time stored _ _ (joint .put-joint .ensures) (time .put-time .ensures)) refl _ refl (c .before .before .put-offset .ensures)
 
 pub write-datetime-tz-spec : {M : Type 1} → statement M
 write-datetime-tz-spec =

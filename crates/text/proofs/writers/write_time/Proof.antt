@@ -1,67 +1,54 @@
--- `write_time` meets its contract: a part out of its range; the buffer too short; the parts stored, each at its place. Below, a is the start, p
--- the place behind the ranges, l that behind `fraction_length`. Assumes nothing.
-use mathlib.Core.Path.{refl, sym, _∙_, ap}
-use Prim.Native.Nat.{ℕ, _+_}
+-- `write_time` meets its contract: a part out of its range; the buffer too short; the parts stored, each at its place. Assumes nothing.
+use mathlib.Core.Path.{refl}
+use Prim.Native.Nat.{_+_}
 use native.Mathlib.Omega.{arith}
-use denote.Ref.{now}
 use Rattle.format.specs.Values.{Time}
-use Rattle.format.proofs.Cases.{not-true, not-false}
-use Rattle.format.proofs.Text.{InRange}
-use Rattle.format.proofs.Text as laws
 use Rattle.values.specs.Meaning.{valueFrom}
-use Rattle.text.proofs.Putting.{fraction-narrow}
-use Rattle.text.proofs.TextWriters.{time-refused, no-room, written, time-length, time-text}
+use Rattle.text.proofs.Rows.{passes}
+use Rattle.text.proofs.Wholes.{text-long}
+use Rattle.text.proofs.TextWriters.{Ready, time-refused, no-date, no-room, small, written}
 use borrow.Author.Needs.{needs}
 use Rattle.text.proofs.writers.write_time.Statement.{statement}
 use Rattle.text.proofs.writers.write_time.Tie as tie
 
--- each part that the kind has is in its range
-ranges : (c : tie.Else1) → InRange Time (valueFrom (c .before .before .before .before .args .value))
-ranges c =
+abbrev start : tie.After-fraction-length → tie.Start
+start c = c .before .before .before .before .before
+
+ready : (c : tie.After-fraction-length) → Ready Time (start c .args .digits) (valueFrom (start c .args .value)) (8 + c .fraction-length .result)
+ready c =
+    let time = c .before in
     record {
-      date = refl;
-      time = sym (c .before .in-range .ensures) ∙ not-false _ (c .if1 .left);
-      offset = refl;
+      ranges = record { date = refl; time = passes (time .before .in-range .ensures) (time .if1 .left); offset = refl };
+      few = start c .pre;
+      long = omega (arith, text-long Time (start c .args .digits), c .fraction-length .ensures);
     }
 
 in-range-requires : tie.Need-in-range-requires
 in-range-requires c κs = search needs
 
 returns : tie.Need-returns
-returns c =
-    let a = c .before .before .before .before in
-    time-refused Time (a .args .digits) (valueFrom (a .args .value)) (now (a .args .buf)) refl (sym (c .before .in-range .ensures) ∙ not-true _ (c .if1 .taken))
+returns c = time-refused Time _ _ _ refl (c .before .in-range .ensures) (c .if1 .taken)
 
 fraction-length-requires : tie.Need-fraction-length-requires
 fraction-length-requires c κs = search needs
 
 add-length : tie.Need-add-length
-add-length c =
-    let a = c .before .before .before .before .before in
-    omega (arith, c .fraction-length .ensures, fraction-narrow (a .args .digits), a .pre)
+add-length c = omega (arith, small (ready c))
 
 returns-2 : tie.Need-returns-2
-returns-2 c =
-    let l = c .before in
-    let p = l .before in
-    let a = p .before .before .before .before in
-    let v = valueFrom (a .args .value) in
-    no-room Time (a .args .digits) v (now (a .args .buf)) (laws.range-in Time v (ranges p)) (a .pre) _ (ap (λ (w : ℕ). 8 + w) (l .fraction-length .ensures) ∙ time-length (a .args .digits)) (c .if2 .taken)
+returns-2 c = no-room (ready (c .before)) _ (c .if2 .taken)
 
 put-time-requires : tie.Need-put-time-requires
-put-time-requires c κs = (ranges (c .before .before .before) .time, c .before .before .before .before .before .before .before .pre, search needs)
+put-time-requires c κs =
+    let r = ready (c .before .before) in (r .ranges .time, r .few, search needs)
 
 same-length : tie.Need-same-length
 same-length c = search needs
 
 returns-3 : tie.Need-returns-3
 returns-3 c =
-    let l = c .before .before .before .before .before in
-    let p = l .before in
-    let a = p .before .before .before .before in
-    let v = valueFrom (a .args .value) in
-    written Time (a .args .digits) v (now (a .args .buf)) (laws.range-in Time v (ranges p)) (a .pre) _ (ap (λ (w : ℕ). 8 + w) (l .fraction-length .ensures) ∙ time-length (a .args .digits)) (omega (arith, c .before .before .before .before .if2 .left)) _
-    (time-text (now (a .args .buf)) (a .args .digits) v _ (c .before .before .put-time .ensures))
+    let room = c .before .before .before .before in
+    written (ready (room .before)) (room .if2 .left) (no-date _ _) (c .before .before .put-time .ensures) refl
 
 pub write-time-spec : {M : Type 1} → statement M
 write-time-spec =

@@ -3,7 +3,8 @@ use mathlib.Core.Path.{_∙_}
 use native.Mathlib.Omega.{arith}
 use Prim.Native.Nat.{_/_}
 use denote.Ref.{now}
-use Rattle.text.proofs.Putting.{time-small, fraction-narrow, time-stored}
+use Rattle.text.proofs.Putting.{time-small, time-stored}
+use Rattle.text.proofs.Wholes.{fraction-narrow}
 use borrow.Author.Needs.{needs}
 use Rattle.text.proofs.writing.put_time.Statement.{statement}
 use Rattle.text.proofs.writing.put_time.Tie as tie
