@@ -5,7 +5,7 @@ use mathlib.Core.Bool.{Bool, true, false, not}
 use mathlib.Core.List.{List}
 use Prim.Native.Nat.{ℕ, _≤_}
 use lib.IntN.{pos}
-use lib.Dec.{leb}
+use lib.Dec.{leb, eqb}
 use lib.ListN.{length}
 use borrow.Author.Tests.{leb-true}
 use Rattle.format.specs.Words.{both, needs, accepted, refused}
@@ -13,7 +13,7 @@ use Rattle.format.specs.Calendar.{Day, isDay}
 use Rattle.format.specs.Values.{Kind, dated, text}
 use Rattle.format.specs.TextReading.{digitsFound}
 use Rattle.format.specs.Reading.{readAs}
-use Rattle.format.proofs.Cases.{both-true}
+use Rattle.format.proofs.Cases.{both-true, both-false}
 use Rattle.calendar.specs.declared.Date.{Date}
 use Rattle.calendar.specs.Meaning.{dayFrom}
 use Rattle.values.specs.declared.parts.Time.{Time}
@@ -24,8 +24,14 @@ use Rattle.text.specs.declared.parts.Clock.{Clock}
 use Rattle.text.specs.Parts.{offsetOf}
 use Rattle.text.specs.Outcomes.{clockFits, outcomeOf}
 use Rattle.text.proofs.Rows.{fails}
-use Rattle.text.proofs.Texts.{redundant, zoneFits, redundant-outcome, no-day-outcome, no-time-outcome, no-zone-outcome, all-fits, accepted-as}
+use Rattle.text.proofs.Texts.{accepted-as}
 use Rattle.text.proofs.Places.{Refuses, Said, noZone, refuses}
+
+abbrev redundant : Zone → Bool
+redundant z = both (z .minus) (both (eqb (z .hours) 0) (eqb (z .minutes) 0))
+
+abbrev zoneFits : Zone → Bool
+zoneFits z = both (leb (z .hours) 23) (leb (z .minutes) 59)
 
 -- and it is not -00:00
 pub record Plain (k : Kind) (d : ℕ) (s : List ℕ) (x : Day) (t : Clock) (z : Zone) : Type 0 where
@@ -35,7 +41,7 @@ pub record Plain (k : Kind) (d : ℕ) (s : List ℕ) (x : Day) (t : Clock) (z : 
 module _ {k : Kind} {d : ℕ} {s : List ℕ} {x : Day} {t : Clock} {z : Zone} where
   module _ (w : Said k d s x t z) where
     pub is-redundant : {b : Bool} → b ≡ redundant z → b ≡ true → Refuses k s 7
-    is-redundant e h = refuses (w .opened) 7 (w .read ∙ redundant-outcome k x _ _ _ z (sym e ∙ h))
+    is-redundant e h = refuses (w .opened) 7 (w .read ∙ (unfold outcomeOf in rw (sym e ∙ h)))
 
     abbrev pub AfterSign : Type 0
     AfterSign = Plain k d s x t z
@@ -48,20 +54,22 @@ module _ {k : Kind} {d : ℕ} {s : List ℕ} {x : Day} {t : Clock} {z : Zone} wh
     out-of-range h = refuses (w .said .opened) 8 (w .said .read ∙ h)
 
     pub no-day : {b : Bool} → b ≡ needs (dated k) (isDay x) → not b ≡ true → Refuses k s 8
-    no-day e h = out-of-range (no-day-outcome k x _ _ _ z (w .plain) (fails e h))
+    no-day e h = out-of-range (unfold outcomeOf in rw (w .plain, fails e h))
 
     pub no-time : {b : Bool} → b ≡ clockFits (t .minute) (t .second) (t .micros) → not b ≡ true → Refuses k s 8
-    no-time e h = out-of-range (no-time-outcome k x _ _ _ z (w .plain) (fails e h))
+    no-time e h = out-of-range (unfold outcomeOf in rw (w .plain, fails e h, both-false (needs (dated k) (isDay x))))
 
     pub no-zone : {b : Bool} → b ≡ zoneFits z → not b ≡ true → Refuses k s 8
-    no-zone e h = out-of-range (no-zone-outcome k x _ _ _ z (w .plain) (fails e h))
+    no-zone e h =
+        out-of-range (unfold outcomeOf in rw (w .plain, fails e h, both-false (clockFits (t .minute) (t .second) (t .micros)), both-false (needs (dated k) (isDay x))))
 
     pub stamped : needs (dated k) (isDay x) ≡ true → clockFits (t .minute) (t .second) (t .micros) ≡ true → zoneFits z ≡ true
         → {y : Date} {v : Time} {o : Offset} → dayFrom y ≡ x → v ≡ record { micros = t .micros } → o .minutes ≡ offsetOf z
         → accepted (record { kind = k; form = text d; value = valueFrom (record { date = y; time = v; offset = o }) }) ≡ readAs k (text (digitsFound k (length s))) s
+    unfolding outcomeOf
     stamped f g h {v = v} a b c =
         let micros : v .micros ≡ t .micros = ap (λ (u : Time). u .micros) b in
-        accepted-as k d s (w .said .opened .found) _ (w .said .read ∙ all-fits k x _ _ _ z (w .plain) f g h ∙ rw (a, micros, c))
+        accepted-as k d s (w .said .opened .found) _ (w .said .read ∙ rw (w .plain, f, g, h, a, micros, c))
 
 -- no offset: nothing to be redundant
 pub unsigned : {k : Kind} {d : ℕ} {s : List ℕ} {x : Day} {t : Clock} → Said k d s x t noZone → Plain k d s x t noZone

@@ -10,8 +10,8 @@ use lib.IntN.{pos, negℤ}
 use lib.Dec.{eqb, leb}
 use lib.ListN.{length}
 use borrow.Author.Tests.{eqb-true, eqb-false, eq-eqb, ne-eqb, le-leb, lt-leb}
-use Rattle.format.specs.Words.{pick, both, either, needs, accepted, refused}
-use Rattle.format.specs.Calendar.{Day, isDay}
+use Rattle.format.specs.Words.{pick, both, either, accepted, refused}
+use Rattle.format.specs.Calendar.{Day}
 use Rattle.format.specs.Values.{Kind, dated, timed, zoned, Value, text}
 use Rattle.format.specs.Fields.{widths, fit, says}
 use Rattle.format.specs.Text.{dateRow, clockRow, offsetRow, layout, textLength, fractionUnit}
@@ -123,36 +123,6 @@ module _ (k : Kind) (d : ℕ) (s : List ℕ) (l : d ≤ 6) where
   no-offset q h e =
       let c = fit (clockRow (timed k) (dated k) d) s (widths (dateRow (dated k))) in
       unfit (layout-fit ∙ rw (rw h at e, both-false c) (both-false (fit (dateRow (dated k)) s 0)))
-
--- ---- 7, 8 and the value
-
-abbrev pub redundant : Zone → Bool
-redundant z = both (z .minus) (both (eqb (z .hours) 0) (eqb (z .minutes) 0))
-
-abbrev pub zoneFits : Zone → Bool
-zoneFits z = both (leb (z .hours) 23) (leb (z .minutes) 59)
-
-module _ (k : Kind) (x : Day) (m n u : ℕ) (z : Zone) where
-  pub redundant-outcome : redundant z ≡ true → outcomeOf k x m n u z ≡ refused 7
-  unfolding outcomeOf
-  redundant-outcome e = rw e
-
-  pub no-day-outcome : redundant z ≡ false → needs (dated k) (isDay x) ≡ false → outcomeOf k x m n u z ≡ refused 8
-  unfolding outcomeOf
-  no-day-outcome e f = rw (e, f)
-
-  pub no-time-outcome : redundant z ≡ false → clockFits m n u ≡ false → outcomeOf k x m n u z ≡ refused 8
-  unfolding outcomeOf
-  no-time-outcome e f = rw (e, f, both-false (needs (dated k) (isDay x)))
-
-  pub no-zone-outcome : redundant z ≡ false → zoneFits z ≡ false → outcomeOf k x m n u z ≡ refused 8
-  unfolding outcomeOf
-  no-zone-outcome e f = rw (e, f, both-false (clockFits m n u), both-false (needs (dated k) (isDay x)))
-
-  pub all-fits : redundant z ≡ false → needs (dated k) (isDay x) ≡ true → clockFits m n u ≡ true → zoneFits z ≡ true
-      → outcomeOf k x m n u z ≡ accepted (record { date = x; micros = u; offset = offsetOf z })
-  unfolding outcomeOf
-  all-fits e f g h = rw (e, f, g, h)
 
 -- ---- what is answered
 
