@@ -80,7 +80,13 @@ module _ (s : List ℕ) (at : ℕ) (o : Octets s) where
   pub number-room : (n : ℕ) → at + n ≤ length s → 1 ≤ n → n ≤ 7 → mag (signedOf (take n (drop at s))) < 2 ^ 55
   number-room n l p h = rw (← all-passed s at n l p) (passed-fits s at n 7 o l h)
 
-  -- one octet more
-  pub number-more : (n : ℕ) → at + (n + 1) ≤ length s → 1 ≤ n → push (signedOf (take n (drop at s))) (getD s (at + n) 0) ≡ signedOf (take (n + 1) (drop at s))
-  number-more n l p =
-      rw (← all-passed s at n (omega arith) p, ← one-more s at n (omega arith)) (all-passed s at (n + 1) l (omega arith))
+  -- one octet more: v is the number of n octets, as it is handed on
+  module _ (n : ℕ) (v : ℤ) (f : SFits w64 v) (e : v ≡ signedOf (take n (drop at s))) (p : 1 ≤ n) where
+    pub more-room : at + n ≤ length s → n ≤ 7 → mag (toZ w64 (ofZ w64 v)) < 2 ^ 55
+    more-room l h = rw (toZ-ofZ f, e) (number-room n l p h)
+
+    pub more-read : at + (n + 1) ≤ length s → (x : ℤ) → SFits w64 x → x ≡ push (toZ w64 (ofZ w64 v)) (getD s (at + n) 0)
+        → toZ w64 (ofZ w64 x) ≡ signedOf (take (n + 1) (drop at s))
+    more-read l x g i =
+        toZ-ofZ g ∙ i
+        ∙ rw (toZ-ofZ f, e, ← all-passed s at n (omega arith) p, ← one-more s at n (omega arith)) (all-passed s at (n + 1) l (omega arith))

@@ -1,5 +1,6 @@
 -- `parse_date` meets its contract: the form that is chosen, and what its reader answers. Assumes nothing.
 use mathlib.Core.Path.{refl}
+use Rattle.format.specs.Values.{Date}
 use Rattle.stamp.proofs.Choosing.{as-compact, as-text}
 use borrow.Author.Needs.{needs}
 use Rattle.stamp.proofs.reading.parse_date.Statement.{statement}
@@ -12,7 +13,7 @@ read-date-requires : tie.Need-read-date-requires
 read-date-requires c κs = search needs
 
 returns : tie.Need-returns
-returns c = rw (as-compact _ _ (rw (c .before .before .longest .ensures) at (c .before .if1 .taken))) (c .read-date .ensures)
+returns c = rw (as-compact Date _ (rw (c .before .before .longest .ensures) at (c .before .if1 .taken))) (c .read-date .ensures)
 
 read-date-requires-2 : tie.Need-read-date-requires-2
 read-date-requires-2 c κs = search needs

@@ -1,5 +1,6 @@
 -- `parse_date_tz` meets its contract: the form that is chosen, and what its reader answers. Assumes nothing.
 use mathlib.Core.Path.{refl}
+use Rattle.format.specs.Values.{DateTz}
 use Rattle.stamp.proofs.Choosing.{as-compact, as-text}
 use borrow.Author.Needs.{needs}
 use Rattle.stamp.proofs.reading.parse_date_tz.Statement.{statement}
@@ -12,7 +13,7 @@ read-date-tz-requires : tie.Need-read-date-tz-requires
 read-date-tz-requires c κs = search needs
 
 returns : tie.Need-returns
-returns c = rw (as-compact _ _ (rw (c .before .before .longest .ensures) at (c .before .if1 .taken))) (c .read-date-tz .ensures)
+returns c = rw (as-compact DateTz _ (rw (c .before .before .longest .ensures) at (c .before .if1 .taken))) (c .read-date-tz .ensures)
 
 read-date-tz-requires-2 : tie.Need-read-date-tz-requires-2
 read-date-tz-requires-2 c κs = search needs

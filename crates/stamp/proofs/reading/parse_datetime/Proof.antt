@@ -16,7 +16,7 @@ read-datetime-requires : tie.Need-read-datetime-requires
 read-datetime-requires c κs = search needs
 
 returns : tie.Need-returns
-returns c = rw (as-compact _ _ (rw (c .before .before .longest .ensures) at (c .before .if1 .taken))) (c .read-datetime .ensures)
+returns c = rw (as-compact Datetime _ (rw (c .before .before .longest .ensures) at (c .before .if1 .taken))) (c .read-datetime .ensures)
 
 shared-slice-read-if2 : tie.Need-shared-slice-read-if2
 shared-slice-read-if2 c = search needs

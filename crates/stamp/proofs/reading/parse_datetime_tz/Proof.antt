@@ -16,7 +16,7 @@ read-datetime-tz-requires : tie.Need-read-datetime-tz-requires
 read-datetime-tz-requires c κs = search needs
 
 returns : tie.Need-returns
-returns c = rw (as-compact _ _ (rw (c .before .before .longest .ensures) at (c .before .if1 .taken))) (c .read-datetime-tz .ensures)
+returns c = rw (as-compact DatetimeTz _ (rw (c .before .before .longest .ensures) at (c .before .if1 .taken))) (c .read-datetime-tz .ensures)
 
 shared-slice-read-if2 : tie.Need-shared-slice-read-if2
 shared-slice-read-if2 c = search needs

@@ -16,7 +16,7 @@ read-time-tz-requires : tie.Need-read-time-tz-requires
 read-time-tz-requires c κs = search needs
 
 returns : tie.Need-returns
-returns c = rw (as-compact _ _ (rw (c .before .before .longest .ensures) at (c .before .if1 .taken))) (c .read-time-tz .ensures)
+returns c = rw (as-compact TimeTz _ (rw (c .before .before .longest .ensures) at (c .before .if1 .taken))) (c .read-time-tz .ensures)
 
 shared-slice-read-if2 : tie.Need-shared-slice-read-if2
 shared-slice-read-if2 c = search needs
