@@ -44,9 +44,6 @@ unfolding monthLength sumFrom
 year-short true = omega arith
 year-short false = omega arith
 
-pub year-most : (k : ℕ) → yearLength k ≤ 366
-year-most k = rw months-year at (year-short (leap (k + 1)))
-
 -- what `isDay` says, part by part
 pub record Parts (d : Day) : Type 0 where
   pub year-low : 1 ≤ d .year

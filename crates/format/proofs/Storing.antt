@@ -1,16 +1,15 @@
 -- Octets stored into a buffer from the last to the first, as a loop does it. Assumes nothing.
-use mathlib.Core.Path.{_≡_, refl, sym, _∙_}
+use mathlib.Core.Path.{_≡_, sym, _∙_}
 use mathlib.Core.List.{List, [], _∷_, _++_}
-use Prim.Native.Nat.{ℕ, zero, suc, _+_, _-_, _/_, _%_, _<_}
+use Prim.Native.Nat.{ℕ, zero, suc, _+_, _-_, _<_}
 use native.Mathlib.Nat.{add-zero, not-suc-le-zero}
 use native.Mathlib.Omega.{arith}
 use lib.IntN.{ℤ}
 use lib.ListN.{length, set}
 use lib.Seq.{sets, set-comm}
 use Rattle.format.specs.Floor.{divF, modF}
-use Rattle.format.specs.Octets.{signedOctets, unsignedOctets}
+use Rattle.format.specs.Octets.{signedOctets}
 use Rattle.format.proofs.Signed.{octets-length, octets-snoc}
-use Rattle.format.proofs.Unsigned.{unsigned-length}
 
 -- the last of a run of stores may be made first
 pub sets-last : (l : List ℕ) (i : ℕ) (xs : List ℕ) (d : ℕ) → sets l i (xs ++ (d ∷ [])) ≡ sets (set l (i + length xs) d) i xs
@@ -30,22 +29,10 @@ sets-append l i (x ∷ xs) ys =
 pub sets-then : (l : List ℕ) (i j : ℕ) (xs ys zs : List ℕ) → i + length xs ≡ j → xs ++ ys ≡ zs → sets (sets l i xs) j ys ≡ sets l i zs
 sets-then l i j xs ys zs e p = rw (← e, ← p) (sym (sets-append l i xs ys))
 
--- One turn of a loop that stores a number's octets: the last one is stored, and the k of the rest are still to be. Over any `octets` of
--- which k + 1 are the rest's k and then the last one.
-module _ (A : Type 0) (octets : ℕ → A → List ℕ) (rest : A → A) (last : A → ℕ)
-    (count : (k : ℕ) (v : A) → length (octets k v) ≡ k)
-    (snoc : (k : ℕ) (v : A) → octets (suc k) v ≡ octets k (rest v) ++ (last v ∷ [])) where
-  pub turn : (l : List ℕ) (at k : ℕ) (v : A) → 0 < k → sets (set l (at + (k - 1)) (last v)) at (octets (k - 1) (rest v)) ≡ sets l at (octets k v)
-  turn l at zero v h = absurd (not-suc-le-zero h)
-  turn l at (suc k) v h =
-      let e : suc k - 1 ≡ k = omega arith in
-      rw (e, snoc k v) (sym (rw (count k (rest v)) at (sets-last l at (octets k (rest v)) (last v))))
-
+-- One turn of a loop that stores a number's octets: the last one is stored, and the rest are still to be.
 pub signed-turn : (l : List ℕ) (at k : ℕ) (v : ℤ) → 0 < k
     → sets (set l (at + (k - 1)) (modF v 256)) at (signedOctets (k - 1) (divF v 256)) ≡ sets l at (signedOctets k v)
-signed-turn = turn ℤ signedOctets (λ v. divF v 256) (λ v. modF v 256) octets-length octets-snoc
-
-pub unsigned-turn : (l : List ℕ) (at k v : ℕ) → 0 < k
-    → sets (set l (at + (k - 1)) (v % 256)) at (unsignedOctets (k - 1) (v / 256)) ≡ sets l at (unsignedOctets k v)
-unfolding unsignedOctets
-unsigned-turn = turn ℕ unsignedOctets (λ v. v / 256) (λ v. v % 256) unsigned-length (λ k v. refl)
+signed-turn l at zero v h = absurd (not-suc-le-zero h)
+signed-turn l at (suc k) v h =
+    let e : suc k - 1 ≡ k = omega arith in
+    rw (e, octets-snoc k v) (sym (rw (octets-length k (divF v 256)) at (sets-last l at (signedOctets k (divF v 256)) (modF v 256))))

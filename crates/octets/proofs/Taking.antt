@@ -1,6 +1,6 @@
 -- The number of the octets that a loop has passed: one octet more, and that there is room for it. Assumes nothing.
-use Prim.Native.Nat.{ℕ, zero, suc, _+_, _-_, _*_, _^_, _<_, _≤_}
-use native.Mathlib.Nat.{lt-of-lt-of-le, pow-le-pow-right}
+use Prim.Native.Nat.{ℕ, zero, suc, _+_, _-_, _*_, _<_, _≤_}
+use native.Mathlib.Nat.{lt-of-lt-of-le}
 use native.Mathlib.Numerals.{add-one}
 use native.Mathlib.Omega.{arith}
 use mathlib.Core.Path.{_≡_, refl, sym, ap}
@@ -12,11 +12,10 @@ use lib.Pow.{pow-pos}
 use lib.ListN.{length, take, drop, getD, length-take, length-drop}
 use lib.Seq.{take-suc, drop-cons, getD-drop}
 use borrow.Author.Tests.{lt-ltb, le-ltb}
-use Rattle.format.specs.Octets.{Octets, half, unsignedAt, push, more, signFrom, signedOf, fewestOctets}
+use Rattle.format.specs.Octets.{Octets, half, push, more, signFrom, signedOf, fewestOctets}
 use Rattle.format.proofs.Cases.{lt-or-le}
 use Rattle.format.proofs.Signed.{take-octets, drop-octets, more-snoc}
 use Rattle.format.proofs.Ber.{half-mono, least, fewest-octets}
-use Rattle.format.proofs.Unsigned.{unsigned-small}
 
 -- ---- the sign of a first octet
 
@@ -56,12 +55,3 @@ passed-fits s at (suc i) n o l h =
     let c : length xs ≡ suc i = simp (length-take, length-drop) (omega arith) in
     let f = fewest-octets xs (take-octets (suc i) (drop at s) (drop-octets at s o)) (omega arith) in
     rw (all-passed s at (suc i) l (omega arith)) (lt-of-lt-of-le (least x .holds) (half-mono (fewestOctets x) n (omega arith)))
-
--- ---- unsigned
-
-pub unsigned-more : (s : List ℕ) (at i : ℕ) → unsignedAt s at (i + 1) ≡ unsignedAt s at i * 256 + getD s (at + i) 0
-unfolding unsignedAt
-unsigned-more s at i = rw add-one
-
-pub unsigned-room : (s : List ℕ) (at i : ℕ) → Octets s → i < 8 → unsignedAt s at i < 2 ^ 56
-unsigned-room s at i o h = lt-of-lt-of-le (unsigned-small s at i o) (pow-le-pow-right {n = 256} (omega arith) {i = i} {j = 7} (omega arith))

@@ -3,7 +3,7 @@
 use Prim.Native.Nat.{ℕ, suc, _+_, _-_, _*_, _%_, _^_, _<_, _≤_}
 use native.Mathlib.Nat.{mod-eq-of-lt, add-mod-right}
 use native.Mathlib.Omega.{arith}
-use mathlib.Core.Path.{_≡_, refl, sym, _∙_, ap}
+use mathlib.Core.Path.{_≡_, _∙_, ap}
 use mathlib.Core.Logic.{⊎-elim}
 use mathlib.Core.List.{List}
 use lib.IntN.{ℤ, pos, negsuc, subℕ, _-ℤ_}
@@ -16,7 +16,7 @@ use borrow.Author.Tests.{lt-ltb, le-ltb}
 use Rattle.format.specs.Octets.{Octets, half, push, signFrom, signedOf}
 use Rattle.format.proofs.Cases.{lt-or-le}
 use Rattle.format.proofs.Floor.{push-neg}
-use Rattle.octets.proofs.Taking.{soFar, none-yet, one-more, all-passed, passed-fits, sign-plus, sign-minus}
+use Rattle.octets.proofs.Taking.{none-yet, one-more, all-passed, passed-fits, sign-plus, sign-minus}
 
 -- ---- a word's number
 

@@ -1,13 +1,13 @@
 -- The form that is chosen, in reading and in writing, and what the choice tells. Assumes nothing.
-use mathlib.Core.Path.{_≡_, refl, sym, _∙_}
-use mathlib.Core.Bool.{Bool, true, false}
+use mathlib.Core.Path.{_≡_}
+use mathlib.Core.Bool.{true, false}
 use mathlib.Core.List.{List}
 use Prim.Native.Nat.{ℕ, _<_, _≤_}
-use lib.Dec.{leb, eqb}
+use lib.Dec.{eqb}
 use lib.ListN.{length}
 use borrow.Author.Tests.{le-leb, lt-leb, leb-true}
-use Rattle.format.specs.Words.{both, ifAny, Outcome, accepted, refused}
-use Rattle.format.specs.Values.{Kind, timed, Value, Settings, digitsInRange, Form, text, compact, extended, Answer}
+use Rattle.format.specs.Words.{both, refused}
+use Rattle.format.specs.Values.{Kind, timed, Value, Settings, digitsInRange, text, compact, extended}
 use Rattle.format.specs.Choice.{formFor, kindHas}
 use Rattle.format.specs.Writing.{encodeIn, encode}
 use Rattle.format.specs.TextReading.{digitsFound}
@@ -49,7 +49,3 @@ module _ (k : Kind) (t : Settings) (v : Value) (l : digitsInRange (t .digits) �
   pub chosen-digits : (d : ℕ) → formFor k t v ≡ text d → d ≤ 6
   unfolding kindHas
   chosen-digits d e = at-most (timed k) d (leb-true _ _ (rw e at (chosen-has k t v (leb-true (t .digits) 6 l))))
-
-  pub chosen-timed : formFor k t v ≡ extended → timed k ≡ true
-  unfolding kindHas
-  chosen-timed e = rw e at (chosen-has k t v (leb-true (t .digits) 6 l))
