@@ -8,7 +8,7 @@ use native.Mathlib.Numerals.{add-one}
 use native.Mathlib.Omega.{arith}
 use lib.Dec.{T, leb, ltb, leb→le, ltb→lt}
 use Rattle.format.specs.Walk.{sumFrom, Place, place}
-use Rattle.format.specs.Calendar.{yearLength, yearStart}
+use Rattle.format.specs.Calendar.{lastYear, lastNumber, yearLength, yearStart}
 use Rattle.format.proofs.Cases.{lt-or-le}
 use Rattle.format.proofs.Table.{every, below}
 use Rattle.format.proofs.Walk.{sum-last, sum-mono, place-between}
@@ -42,10 +42,10 @@ next : (k : ℕ) → sumFrom yearLength 0 (k + 1) ≡ sumFrom yearLength 0 k + y
 next k = rw (add-one, sum-last, zero-add)
 
 -- a day number that is in reach lies in a year that is in reach
-within : (n k : ℕ) → n < 3652059 → sumFrom yearLength 0 k ≤ n → k ≤ 9998
-within n k h lo = ⊎-elim (λ t. omega arith) (λ t. absurd (omega (arith, days, sum-mono yearLength 0 9999 k t))) (lt-or-le k 9999)
+within : (n k : ℕ) → n ≤ lastNumber → sumFrom yearLength 0 k ≤ n → k ≤ 9998
+within n k h lo = ⊎-elim (λ t. omega arith) (λ t. absurd (omega (arith, days, sum-mono yearLength 0 lastYear k t))) (lt-or-le k lastYear)
 
-module _ (n q r g : ℕ) (h : n < 3652059) (e : n ≡ q * 146097 + r) (w : r < 146097) (u : Guessed r g) where
+module _ (n q r g : ℕ) (h : n ≤ lastNumber) (e : n ≡ q * 146097 + r) (w : r < 146097) (u : Guessed r g) where
   start : sumFrom yearLength 0 (q * 400 + g) ≡ q * 146097 + yearStart g
   start = years-entry q g (u .within)
 
@@ -77,10 +77,10 @@ module _ (n q r g : ℕ) (h : n < 3652059) (e : n ≡ q * 146097 + r) (w : r < 1
       rw d at (sym (place-between yearLength 9998 n (q * 400 + g + 1) (within n _ h lo) lo end))
 
 -- the two at the code's quotient and remainder
-pub found-right : (n g : ℕ) → n < 3652059 → Guessed (n % 146097) g → n % 146097 - yearStart g < yearLength (n / 146097 * 400 + g)
+pub found-right : (n g : ℕ) → n ≤ lastNumber → Guessed (n % 146097) g → n % 146097 - yearStart g < yearLength (n / 146097 * 400 + g)
     → _≡_ {A = Place} (record { index = n / 146097 * 400 + g; rest = n % 146097 - yearStart g }) (place yearLength 9998 0 n)
 found-right n g h u = right n (n / 146097) (n % 146097) g h (omega arith) (omega arith) u
 
-pub found-after : (n g : ℕ) → n < 3652059 → Guessed (n % 146097) g → yearLength (n / 146097 * 400 + g) ≤ n % 146097 - yearStart g
+pub found-after : (n g : ℕ) → n ≤ lastNumber → Guessed (n % 146097) g → yearLength (n / 146097 * 400 + g) ≤ n % 146097 - yearStart g
     → _≡_ {A = Place} (record { index = n / 146097 * 400 + g + 1; rest = n % 146097 - yearStart g - yearLength (n / 146097 * 400 + g) }) (place yearLength 9998 0 n)
 found-after n g h u = after n (n / 146097) (n % 146097) g h (omega arith) (omega arith) u

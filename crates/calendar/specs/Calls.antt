@@ -13,7 +13,7 @@ use Rattle.format.specs.Calendar.{yearStart, isDay, numberAsked, dayAsked}
 use Rattle.calendar.specs.declared.Date.{Date}
 use Rattle.calendar.specs.declared.Numbered.{Numbered}
 use Rattle.calendar.specs.declared.Dated.{Dated}
-use Rattle.calendar.specs.Meaning.{dayFrom, numbered, dated}
+use Rattle.calendar.specs.Meaning.{dayFrom, numberAnswered, dayAnswered}
 
 -- the date of three numbers
 abbrev pub DateNew : ℕ → ℕ → ℕ → Date → Type 0
@@ -25,11 +25,11 @@ DateInRange d r = r ≡ isDay (dayFrom d)
 
 -- a date's day number, where there is such a day
 abbrev pub DayNumber : Date → Numbered → Type 0
-DayNumber d r = numbered r ≡ numberAsked (dayFrom d)
+DayNumber d r = numberAnswered r ≡ numberAsked (dayFrom d)
 
 -- the date of a day number, where there is one
 abbrev pub DateOf : ℕ → Dated → Type 0
-DateOf n r = dated r ≡ dayAsked n
+DateOf n r = dayAnswered r ≡ dayAsked n
 
 -- the days before the years of the last cycle
 abbrev pub YearStart : ℕ → ℕ → Type 0

@@ -5,7 +5,7 @@ ghost use mathlib.Core.Bool.{true};
 ghost use Prim.Native.Nat.{_+_, _-_, _<_, _≤_};
 ghost use Rattle.format.specs.Words.{pick};
 ghost use Rattle.format.specs.Walk.{sumFrom, place};
-ghost use Rattle.format.specs.Calendar.{leap, yearLength, isDay, dayNumber, dayIn};
+ghost use Rattle.format.specs.Calendar.{lastYear, lastNumber, leap, yearLength, isDay, dayNumber, dayIn};
 ghost use Rattle.calendar.specs.Meaning.{dayFrom};
 ghost use Rattle.calendar.specs.Steps.{placeFrom, Guessed};
 ghost use Rattle.calendar.specs.Calls.{DateNew, DateInRange, DayNumber, DateOf, YearStart};
@@ -102,7 +102,7 @@ fn year_length(leap: bool) -> u32
 
 // Whole cycles, and the table's entry for the years of the last one.
 fn days_before_years(years: u32) -> u32
-    requires { ⌜ years < 9999 ⌝ }
+    requires { ⌜ years < lastYear ⌝ }
     ensures { λ r. ⌜ r ≡ sumFrom yearLength 0 years ⌝ }
 {
     years / CYCLE_YEARS * CYCLE_DAYS + year_starts::entry(years % CYCLE_YEARS)
@@ -139,7 +139,7 @@ pub fn day_number(date: Date) -> Numbered
 // The years of the cycle before its day `rest`, or one too few: a year's share of the cycle's days is less than a day before its start, and less than
 // two behind it.
 fn guess(rest: u32) -> u32
-    requires { ⌜ rest < 146097 ⌝ }
+    requires { do ⌜ rest < (← ⟦CYCLE_DAYS⟧) ⌝ }
     ensures { λ r. ⌜ Guessed rest r ⌝ }
 {
     rest * CYCLE_YEARS / CYCLE_DAYS
@@ -147,7 +147,7 @@ fn guess(rest: u32) -> u32
 
 // The table is read once: where the guess is one too few, the next year starts by this one's length later.
 fn elapsed_at(number: u32) -> Elapsed
-    requires { ⌜ number < 3652059 ⌝ }
+    requires { ⌜ number ≤ lastNumber ⌝ }
     ensures { λ r. ⌜ (placeFrom r ≡ place yearLength 9998 0 number) × (r .leap ≡ leap (r .years + 1)) ⌝ }
 {
     let rest = number % CYCLE_DAYS;
@@ -169,7 +169,7 @@ fn elapsed_at(number: u32) -> Elapsed
 
 // The date of the day that comes after that many years and days.
 fn date_after(past: Elapsed) -> Date
-    requires { ⌜ (past .years < 9999) × (past .days < yearLength (past .years)) × (past .leap ≡ leap (past .years + 1)) ⌝ }
+    requires { ⌜ (past .years < lastYear) × (past .days < yearLength (past .years)) × (past .leap ≡ leap (past .years + 1)) ⌝ }
     ensures { λ r. ⌜ dayFrom r ≡ dayIn (placeFrom past) ⌝ }
 {
     let year = past.years + 1;

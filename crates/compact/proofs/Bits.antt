@@ -10,6 +10,7 @@ use mir.Syntax.{w32}
 use mir.Val.{SFits, ofZ}
 use borrow.Author.Tests.{ne-eqb}
 use Rattle.format.specs.Words.{pick, ifAny}
+use Rattle.format.specs.Compact.{millisPerDay, epoch}
 use Rattle.compact.proofs.Since.{mag-since}
 
 -- no bits set: zero
@@ -22,15 +23,15 @@ mag-neg zero = omega arith
 mag-neg (suc n) = omega arith
 
 -- days since 2020, where there is a date
-pub days-small : (d : Bool) (n : ℕ) → n < 2 ^ 32 → mag (subℕ (ifAny d n) (ifAny d 737424)) < 2 ^ 33
-days-small true n h = omega (arith, mag-since n 737424)
+pub days-small : (d : Bool) (n : ℕ) → n < 2 ^ 32 → mag (subℕ (ifAny d n) (ifAny d epoch)) < 2 ^ 33
+days-small true n h = omega (arith, mag-since n epoch)
 days-small false n h = omega arith
 
 -- the days, or the milliseconds of them
-pub times-small : (t : Bool) (z : ℤ) → mag z < 2 ^ 33 → mag (z *ℤ pos (pick t 86400000 1)) < 2 ^ 62
+pub times-small : (t : Bool) (z : ℤ) → mag z < 2 ^ 33 → mag (z *ℤ pos (pick t millisPerDay 1)) < 2 ^ 62
 times-small true (pos a) h = omega arith
 times-small false (pos a) h = omega arith
-times-small true (negsuc a) h = omega (arith, mag-neg (suc a * 86400000))
+times-small true (negsuc a) h = omega (arith, mag-neg (suc a * millisPerDay))
 times-small false (negsuc a) h = omega (arith, mag-neg (suc a * 1))
 
 pub plus-small : (z : ℤ) (m : ℕ) → mag (z +ℤ pos m) ≤ mag z + m + 1

@@ -10,7 +10,7 @@ use borrow.Author.Tests.{leb-true}
 use Rattle.format.specs.Words.{pick, ifAny}
 use Rattle.format.specs.Calendar.{dayNumber}
 use Rattle.format.specs.Values.{Kind, dated, timed, Value}
-use Rattle.format.specs.Compact.{perDay, start, count, number, greatest}
+use Rattle.format.specs.Compact.{millisPerDay, epoch, perDay, start, count, number, greatest}
 use Rattle.format.specs.CompactReading.{notBefore, counted, numberInRange}
 use Rattle.format.proofs.Cases.{both-true}
 use Rattle.compact.proofs.Since.{join-since, add-since}
@@ -18,21 +18,21 @@ use Rattle.compact.proofs.Since.{join-since, add-since}
 -- ---- made
 
 pub number-made : (k : Kind) (v : Value) (day : ℕ) → (dated k ≡ true → day ≡ dayNumber (v .date))
-    → number k v ≡ subℕ (ifAny (dated k) day) (ifAny (dated k) 737424) *ℤ pos (perDay k) +ℤ pos (ifAny (timed k) (v .micros / 1000))
+    → number k v ≡ subℕ (ifAny (dated k) day) (ifAny (dated k) epoch) *ℤ pos (perDay k) +ℤ pos (ifAny (timed k) (v .micros / 1000))
 unfolding number count start
 number-made k v day h = go (dated k) h
   where
     go : (d : Bool) → (d ≡ true → day ≡ dayNumber (v .date))
-        → subℕ (ifAny d (dayNumber (v .date)) * perDay k + ifAny (timed k) (v .micros / 1000)) (ifAny d (737424 * perDay k))
-        ≡ subℕ (ifAny d day) (ifAny d 737424) *ℤ pos (perDay k) +ℤ pos (ifAny (timed k) (v .micros / 1000))
-    go true h = rw (h refl) (join-since (dayNumber (v .date)) 737424 (perDay k) (ifAny (timed k) (v .micros / 1000)))
+        → subℕ (ifAny d (dayNumber (v .date)) * perDay k + ifAny (timed k) (v .micros / 1000)) (ifAny d (epoch * perDay k))
+        ≡ subℕ (ifAny d day) (ifAny d epoch) *ℤ pos (perDay k) +ℤ pos (ifAny (timed k) (v .micros / 1000))
+    go true h = rw (h refl) (join-since (dayNumber (v .date)) epoch (perDay k) (ifAny (timed k) (v .micros / 1000)))
     go false h =
         let z : 0 * perDay k ≡ 0 = omega arith in
         rw z (rw z at (join-since 0 0 (perDay k) (ifAny (timed k) (v .micros / 1000))))
 
 -- ---- counted from the least, and split
 
-pub units-timed : (k : Kind) → timed k ≡ true → perDay k ≡ 86400000
+pub units-timed : (k : Kind) → timed k ≡ true → perDay k ≡ millisPerDay
 unfolding perDay
 units-timed k t = rw t
 
@@ -41,7 +41,7 @@ unfolding perDay
 units-plain k t = rw t
 
 -- the last day is 9999-12-31
-last-day : (t c : Bool) (n : ℕ) → n ≤ 737424 * pick t 86400000 1 + pick t (pick c 251824463999999 140737488355327) 2914634 → n / pick t 86400000 1 < 3652059
+last-day : (t c : Bool) (n : ℕ) → n ≤ epoch * pick t millisPerDay 1 + pick t (pick c 251824463999999 140737488355327) 2914634 → n / pick t millisPerDay 1 < 3652059
 last-day true true n h = omega arith
 last-day true false n h = omega arith
 last-day false c n h = omega arith
@@ -51,7 +51,7 @@ small : (k : Kind) (c : Bool) → start k + greatest k c < 2 ^ 63
 unfolding start greatest perDay
 small k c = go (dated k) (timed k) c
   where
-    go : (d t c : Bool) → ifAny d (737424 * pick t 86400000 1) + pick d (pick t (pick c 251824463999999 140737488355327) 2914634) 86400000 < 2 ^ 63
+    go : (d t c : Bool) → ifAny d (epoch * pick t millisPerDay 1) + pick d (pick t (pick c 251824463999999 140737488355327) 2914634) millisPerDay < 2 ^ 63
     go true true true = omega arith
     go true true false = omega arith
     go true false c = omega arith
@@ -78,7 +78,7 @@ module _ (k : Kind) (c : Bool) (x : ℤ) (q : numberInRange k c x ≡ true) wher
 
   -- a date, and a time with it or none
   module _ (d : dated k ≡ true) where
-    start-days : start k ≡ 737424 * perDay k
+    start-days : start k ≡ epoch * perDay k
     unfolding start
     start-days = rw d
 
@@ -96,8 +96,8 @@ module _ (k : Kind) (c : Bool) (x : ℤ) (q : numberInRange k c x ≡ true) wher
     unfolding start
     start-none = rw d
 
-    pub time-small : counted (start k) x ≤ 86400000
+    pub time-small : counted (start k) x ≤ millisPerDay
     time-small = omega (arith, limit, start-none, none)
       where
-        none : greatest k c ≡ 86400000
+        none : greatest k c ≡ millisPerDay
         none = unfold greatest in rw d

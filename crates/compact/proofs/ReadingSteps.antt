@@ -10,8 +10,8 @@ use Rattle.format.specs.Values.{Kind, Answer, compact}
 use Rattle.format.specs.CompactReading.{shortest, longest, readNumber, readCompact}
 use Rattle.format.specs.Reading.{readIn, answer, readAs}
 use Rattle.compact.specs.declared.reading.Taken.{Taken}
-use Rattle.compact.specs.declared.common.Seen.{Seen}
-use Rattle.compact.specs.declared.common.Seen.the-variants as S
+use Rattle.compact.specs.declared.frequent_lengths.Seen.{Seen}
+use Rattle.compact.specs.declared.frequent_lengths.Seen.the-variants as S
 use Rattle.compact.specs.Meaning.{Takes, Sees, readTaken}
 
 module _ (k : Kind) (s : List ℕ) where

@@ -1,4 +1,4 @@
--- What is taken from an image of a common length, by its fields: alone, or behind an offset. Assumes nothing.
+-- What is taken from an image of a frequent length, by its fields: alone, or behind an offset. Assumes nothing.
 use mathlib.Core.Path.{_≡_, refl, sym, _∙_, ap}
 use mathlib.Core.Logic.{⊎-elim}
 use mathlib.Core.Bool.{Bool, true, false, not}
@@ -19,10 +19,10 @@ use Rattle.format.specs.Values.{Kind, timed, zoned}
 use Rattle.format.specs.Octets.{Octets, half, signedOf, fewestOctets}
 use Rattle.format.specs.Compact.{paddedTo, numberOctets}
 use Rattle.format.specs.CompactReading.{longest, shortest, longestPlain, carriedIn, usual}
-use Rattle.format.proofs.Cases.{both-false, lt-or-le}
+use Rattle.format.proofs.Cases.{lt-or-le}
 use Rattle.format.proofs.Signed.{drop-octets}
 use Rattle.compact.specs.declared.reading.Taken.{Taken}
-use Rattle.compact.specs.declared.common.Seen.the-variants as S
+use Rattle.compact.specs.declared.frequent_lengths.Seen.the-variants as S
 use Rattle.compact.specs.Meaning.{Sees, SeesAlone}
 use Rattle.compact.proofs.Shortest.{padded-shortest, beyond-shortest}
 use Rattle.compact.proofs.Room.{some-octets}
@@ -105,8 +105,3 @@ module _ (n : ℕ) (s : List ℕ) (known : (i : ℕ) → Fits w8 (getD s i 0)) w
 pub never-carried : (k : Kind) (n : ℕ) → zoned k ≡ false → carriedIn k n ≡ false
 unfolding carriedIn
 never-carried k n e = rw e
-
--- no more octets than a number alone takes
-pub alone : (k : Kind) (n : ℕ) → timed k ≡ true → n ≤ longestPlain k → carriedIn k n ≡ false
-unfolding carriedIn
-alone k n t h = rw (t, le-ltb (longestPlain k) n h, both-false)

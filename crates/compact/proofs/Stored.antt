@@ -1,7 +1,7 @@
--- An image's two parts: their lengths, the room that they take, and that storing one behind the other stores the image. Assumes nothing.
+-- An image's two parts: their length, and that storing one behind the other stores the image. Assumes nothing.
 use mathlib.Core.Path.{_≡_, sym, _∙_}
 use mathlib.Core.List.{List}
-use Prim.Native.Nat.{ℕ, _+_, _≤_}
+use Prim.Native.Nat.{ℕ, _+_}
 use native.Mathlib.Omega.{arith}
 use lib.ListN.{length, length-append}
 use lib.Seq.{sets}
@@ -19,12 +19,6 @@ module _ (i : Image) where
   pub image-length : length (imageOctets i) ≡ ifAny (i .front) 2 + i .octets
   unfolding imageOctets
   image-length = simp (length-append, octets-length)
-
-  pub front-room : {n : ℕ} → length (imageOctets i) ≤ n → ifAny (i .front) 2 ≤ n
-  front-room h = omega (arith, image-length)
-
-  pub number-room : {n at : ℕ} → length (imageOctets i) ≤ n → at ≡ ifAny (i .front) 2 → at + i .octets ≤ n
-  number-room h e = omega (arith, image-length)
 
   pub parts-stored : (lent : List ℕ) → SFits w32 (i .minutes) → SFits w64 (i .number) → {front left : List ℕ} {at : ℕ} → at ≡ ifAny (i .front) 2
       → front ≡ sets lent 0 (signedOctets (ifAny (i .front) 2) (toZ w32 (ofZ w32 (i .minutes))))

@@ -25,8 +25,8 @@ use Rattle.compact.specs.declared.put.Image.{Image}
 use Rattle.compact.specs.declared.put.Imaged.{Imaged}
 use Rattle.compact.specs.declared.put.Imaged.the-variants as I
 use Rattle.compact.specs.declared.reading.Taken.{Taken}
-use Rattle.compact.specs.declared.common.Seen.{Seen}
-use Rattle.compact.specs.declared.common.Seen.the-variants as S
+use Rattle.compact.specs.declared.frequent_lengths.Seen.{Seen}
+use Rattle.compact.specs.declared.frequent_lengths.Seen.the-variants as S
 
 unfoldable pub imageOctets : Image → List ℕ
 imageOctets i = signedOctets (ifAny (i .front) 2) (i .minutes) ++ signedOctets (i .octets) (i .number)

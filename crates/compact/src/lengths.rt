@@ -46,12 +46,12 @@ fn longest_plain(kind: Kind) -> usize
     ensures { λ r. ⌜ r ≡ longestPlain (kindFrom kind) ⌝ }
 {
     if !kind.dated() {
-        return 4;
+        return longest(Kind::Time);
     }
     if kind.timed() {
-        return 6;
+        return longest(Kind::Datetime);
     }
-    3
+    longest(Kind::Date)
 }
 
 // Whether so many octets have an offset in front.

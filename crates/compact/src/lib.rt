@@ -1,6 +1,6 @@
 // The compact form of every kind: two octets of offset where it is carried, then one number as a BER integer.
 // The number is signed: negative before 2020-01-01. A reader and a writer for each kind: each takes any octets, value and buffer, and answers.
-mod common;
+mod frequent_lengths;
 mod lengths;
 mod limits;
 mod put;

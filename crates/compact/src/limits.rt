@@ -5,22 +5,21 @@ ghost use Rattle.format.specs.Words.{ifAny};
 ghost use Rattle.format.specs.Compact.{perDay, start, greatest, paddedTo};
 ghost use Rattle.values.specs.Meaning.{kindFrom};
 use values::Kind;
+use values::Time;
 
 // The day number of 2020-01-01.
 pub const EPOCH: i64 = 737_424;
 
-const MILLIS_PER_DAY: i64 = 86_400_000;
-
-// The same, of what is counted from the least number.
-pub const DAY: u64 = 86_400_000;
+// 24:00 in whole milliseconds.
+pub const MILLIS_PER_DAY: u64 = Time::END_OF_DAY / 1000;
 
 // 0001-01-01 and 9999-12-31, in days from 2020-01-01.
-const FIRST_DAY: i64 = -737_424;
+const FIRST_DAY: i64 = -EPOCH;
 
 const LAST_DAY: i64 = 2_914_634;
 
 // 0001-01-01T00:00 in milliseconds from 2020-01-01.
-const FIRST_T: i64 = -63_713_433_600_000;
+const FIRST_T: i64 = FIRST_DAY * MILLIS_PER_DAY as i64;
 
 // T without an offset ends where a seventh octet would begin: that would read as an offset and 5 octets.
 const LAST_T_ALONE: i64 = 140_737_488_355_327;
@@ -32,7 +31,7 @@ pub fn per_day(kind: Kind) -> i64
     ensures { λ r. ⌜ r ≡ pos (perDay (kindFrom kind)) ⌝ }
 {
     if kind.timed() {
-        return MILLIS_PER_DAY;
+        return MILLIS_PER_DAY as i64;
     }
     1
 }
@@ -54,7 +53,7 @@ pub fn greatest_number(kind: Kind, front: bool) -> i64
     ensures { λ r. ⌜ r ≡ pos (greatest (kindFrom kind) front) ⌝ }
 {
     if !kind.dated() {
-        return MILLIS_PER_DAY;
+        return MILLIS_PER_DAY as i64;
     }
     if !kind.timed() {
         return LAST_DAY;

@@ -38,7 +38,7 @@ impl Image {
         let minutes = self.minutes;
         let octets = self.octets;
         let number = self.number;
-        put_offset(buf, front, minutes);
+        put_offset(buf, front, minutes); // a DateTz always has one
         put_days(buf, limits::front_octets(front), octets, number);
     }
 

@@ -1,12 +1,12 @@
-// The six readers: an image of a common length at a glance, any other octet by octet. 5, 7 and 8 in this order, each over the whole input
+// The six readers: an image of a frequent length at a glance, any other octet by octet. 5, 7 and 8 in this order, each over the whole input
 // before the next.
 ghost use Rattle.format.specs.Values as format;
 ghost use Rattle.format.specs.Reading as reading;
 ghost use Rattle.values.specs.Meaning.{kindFrom};
 ghost use Rattle.values.specs.Promise.{Parses};
 ghost use Rattle.compact.specs.Meaning.{readTaken};
-use crate::common;
-use crate::common::Seen;
+use crate::frequent_lengths;
+use crate::frequent_lengths::Seen;
 use crate::lengths;
 use crate::reading;
 use crate::reading::Taken;
@@ -40,7 +40,7 @@ fn read(kind: Kind, s: &[u8]) -> Parsed
 pub fn read_date(s: &[u8]) -> Parsed
     ensures { λ r. ⌜ Parses format.Date (reading.readAs format.Date format.compact (now (s .entry))) r ⌝ }
 {
-    match common::date_alone(s) {
+    match frequent_lengths::date_alone(s) {
         Seen::Taken(taken) => answer(Kind::Date, taken),
         Seen::Rare => read(Kind::Date, s),
     }
@@ -49,7 +49,7 @@ pub fn read_date(s: &[u8]) -> Parsed
 pub fn read_date_tz(s: &[u8]) -> Parsed
     ensures { λ r. ⌜ Parses format.DateTz (reading.readAs format.DateTz format.compact (now (s .entry))) r ⌝ }
 {
-    match common::date_behind(s) {
+    match frequent_lengths::date_behind(s) {
         Seen::Taken(taken) => answer(Kind::DateTz, taken),
         Seen::Rare => read(Kind::DateTz, s),
     }
@@ -58,7 +58,7 @@ pub fn read_date_tz(s: &[u8]) -> Parsed
 pub fn read_time(s: &[u8]) -> Parsed
     ensures { λ r. ⌜ Parses format.Time (reading.readAs format.Time format.compact (now (s .entry))) r ⌝ }
 {
-    match common::time_alone(s) {
+    match frequent_lengths::time_alone(s) {
         Seen::Taken(taken) => answer(Kind::Time, taken),
         Seen::Rare => read(Kind::Time, s),
     }
@@ -67,7 +67,7 @@ pub fn read_time(s: &[u8]) -> Parsed
 pub fn read_time_tz(s: &[u8]) -> Parsed
     ensures { λ r. ⌜ Parses format.TimeTz (reading.readAs format.TimeTz format.compact (now (s .entry))) r ⌝ }
 {
-    match common::time_alone_or_behind(s) {
+    match frequent_lengths::time_alone_or_behind(s) {
         Seen::Taken(taken) => answer(Kind::TimeTz, taken),
         Seen::Rare => read(Kind::TimeTz, s),
     }
@@ -76,7 +76,7 @@ pub fn read_time_tz(s: &[u8]) -> Parsed
 pub fn read_datetime(s: &[u8]) -> Parsed
     ensures { λ r. ⌜ Parses format.Datetime (reading.readAs format.Datetime format.compact (now (s .entry))) r ⌝ }
 {
-    match common::datetime_alone(s) {
+    match frequent_lengths::datetime_alone(s) {
         Seen::Taken(taken) => answer(Kind::Datetime, taken),
         Seen::Rare => read(Kind::Datetime, s),
     }
@@ -85,7 +85,7 @@ pub fn read_datetime(s: &[u8]) -> Parsed
 pub fn read_datetime_tz(s: &[u8]) -> Parsed
     ensures { λ r. ⌜ Parses format.DatetimeTz (reading.readAs format.DatetimeTz format.compact (now (s .entry))) r ⌝ }
 {
-    match common::datetime_alone_or_behind(s) {
+    match frequent_lengths::datetime_alone_or_behind(s) {
         Seen::Taken(taken) => answer(Kind::DatetimeTz, taken),
         Seen::Rare => read(Kind::DatetimeTz, s),
     }

@@ -145,7 +145,7 @@ impl Taken {
     {
         let count = self.count(kind);
         if kind.timed() {
-            return (count / limits::DAY) as u32;
+            return (count / limits::MILLIS_PER_DAY) as u32;
         }
         count as u32
     }
@@ -173,7 +173,7 @@ impl Taken {
         }
         let count = self.count(kind);
         if kind.dated() {
-            return count % limits::DAY * 1000;
+            return count % limits::MILLIS_PER_DAY * 1000;
         }
         count * 1000
     }

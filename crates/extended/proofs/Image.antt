@@ -1,7 +1,6 @@
 -- The octets of an extended stamp, over the kind's flag `dated`: where each part stands, and the parts stored one after the other.
 -- Assumes nothing.
 use Prim.Native.Nat.{ℕ, _+_, _*_}
-use native.Mathlib.Omega.{arith}
 use mathlib.Core.Path.{_≡_, refl, _∙_}
 use mathlib.Core.Bool.{true, false}
 use mathlib.Core.List.{List, _++_}

@@ -1,23 +1,16 @@
 -- Where the parts stand in the octets, as words are loaded: an octet and four, or eight for two parts. Assumes nothing.
-use mathlib.Core.Path.{_≡_, sym}
+use mathlib.Core.Path.{_≡_}
 use mathlib.Core.Logic.{⊎-elim}
-use mathlib.Core.Bool.{true, false}
 use mathlib.Core.List.{List}
-use Prim.Native.Nat.{ℕ, _+_, _*_, _/_, _%_, _<_, _≤_}
+use Prim.Native.Nat.{ℕ, _+_, _*_, _/_, _%_, _<_}
 use native.Mathlib.Omega.{arith}
-use lib.Dec.{leb, eqb}
+use lib.Dec.{eqb}
 use lib.ListN.{getD}
-use borrow.Author.Tests.{le-leb, lt-leb, eq-eqb, ne-eqb}
-use Rattle.format.specs.Values.{timeInRange}
+use borrow.Author.Tests.{eq-eqb, ne-eqb}
 use Rattle.format.specs.Octets.{Octets, unsignedAt}
 use Rattle.format.specs.Reading.{firstBits}
-use Rattle.format.proofs.Cases.{lt-or-le, eq-or-ne}
+use Rattle.format.proofs.Cases.{eq-or-ne}
 use Rattle.format.proofs.Unsigned.{unsigned-small}
-
--- two comparisons that go together
-same-test : (a b c d : ℕ) → (a ≤ b → c ≤ d) → (b < a → d < c) → leb a b ≡ leb c d
-same-test a b c d f g =
-    ⊎-elim (λ h. rw (lt-leb a b h, lt-leb c d (g h))) (λ h. rw (le-leb a b h, le-leb c d (f h))) (lt-or-le b a)
 
 module _ (s : List ℕ) (o : Octets s) where
   -- ---- the header
@@ -55,18 +48,6 @@ module _ (s : List ℕ) (o : Octets s) where
   pub five : getD s 2 0 * 4294967296 + unsignedAt s 3 4 ≡ unsignedAt s 2 5
   unfolding unsignedAt
   five = omega arith
-
-  pub early : getD s 2 0 < 20 → true ≡ timeInRange (unsignedAt s 2 5)
-  unfolding timeInRange
-  early h = sym (le-leb (unsignedAt s 2 5) 86400000000 (omega (arith, five, low-small)))
-
-  pub late : 20 ≤ getD s 2 0 → (getD s 2 0 ≡ 20 → ⊥) → false ≡ timeInRange (unsignedAt s 2 5)
-  unfolding timeInRange
-  late h n = sym (lt-leb (unsignedAt s 2 5) 86400000000 (omega (arith, five)))
-
-  pub last-hour : getD s 2 0 ≡ 20 → leb (unsignedAt s 3 4) 500654080 ≡ timeInRange (unsignedAt s 2 5)
-  unfolding timeInRange
-  last-hour e = same-test (unsignedAt s 3 4) 500654080 (unsignedAt s 2 5) 86400000000 (λ h. omega (arith, five)) (λ h. omega (arith, five))
 
   -- ---- the day number and the microseconds: eight octets
 

@@ -9,11 +9,18 @@ ghost use Rattle.values.specs.Meaning.{kindFrom};
 use values::Kind;
 use values::Offset;
 
-// 1000 for plain, 1001 for zoned.
-fn head_bits(kind: Kind) -> u8
+// The first four bits, by which a reader also chooses the form.
+const PLAIN: u8 = 0b1000;
+
+const ZONED: u8 = 0b1001;
+
+// The first octet of a plain header, whose other bits are zero.
+pub const PLAIN_OCTET: u32 = PLAIN as u32 * 16;
+
+pub fn head_bits(kind: Kind) -> u8
     ensures { λ r. ⌜ r ≡ headBits (kindFrom kind) ⌝ }
 {
-    if kind.zoned() { 9 } else { 8 }
+    if kind.zoned() { ZONED } else { PLAIN }
 }
 
 // The low twelve bits of a number in two's complement are its floor modulo 4096.

@@ -4,6 +4,12 @@ mod head;
 mod readers;
 mod writers;
 
+// In octets: header and microseconds, and the day number between them where there is a date.
+const TIME_LENGTH: usize = 7;
+
+const DATETIME_LENGTH: usize = 10;
+
+pub use head::head_bits;
 pub use readers::read_datetime;
 pub use readers::read_datetime_tz;
 pub use readers::read_time;

@@ -3,12 +3,13 @@ ghost use mathlib.Core.Path.{_≡_};
 ghost use Prim.Native.Nat.{_%_, _<_, _≤_};
 ghost use lib.Dec.{eqb};
 ghost use lib.ListN.{length};
-ghost use Rattle.format.specs.Values.{timeInRange};
 ghost use Rattle.format.specs.Values as format;
 ghost use Rattle.format.specs.Octets.{unsignedAt};
 ghost use Rattle.format.specs.Extended.{headBits, offsetFrom};
 ghost use Rattle.format.specs.Reading.{firstBits, readAs};
 ghost use Rattle.values.specs.Promise.{Parses};
+use crate::DATETIME_LENGTH;
+use crate::TIME_LENGTH;
 use crate::head;
 use calendar::Date;
 use calendar::Dated;
@@ -21,13 +22,12 @@ use values::Value;
 
 // ---- what stands where
 
-// Whether a plain header's twelve bits are zero: its first octet is 1000 0000 then, and its second 0. Both are compared at once, the least
-// significant first.
+// Whether a plain header's twelve bits are zero: its second octet is 0 then. Both are compared at once, the least significant first.
 fn is_plain(s: &[u8]) -> bool
     requires { ⌜ (2 ≤ length (now s)) × (firstBits (now s) ≡ 8) ⌝ }
     ensures { λ r. ⌜ r ≡ eqb (unsignedAt (now (s .entry)) 0 2 % 4096) 0 ⌝ }
 {
-    (s[0] as u32) + (s[1] as u32) * 256 == 128
+    (s[0] as u32) + (s[1] as u32) * 256 == head::PLAIN_OCTET
 }
 
 fn offset_in(s: &[u8]) -> Offset
@@ -38,21 +38,7 @@ fn offset_in(s: &[u8]) -> Offset
     head::offset_of(header % 4096)
 }
 
-// Whether the microseconds of a Time or a TimeTz are at most 24:00, 0x14_1dd7_6000: mostly the first octet tells.
-fn time_fits(s: &[u8]) -> bool
-    requires { ⌜ 7 ≤ length (now s) ⌝ }
-    ensures { λ r. ⌜ r ≡ timeInRange (unsignedAt (now (s .entry)) 2 5) ⌝ }
-{
-    let high = s[2];
-    if high < 0x14 {
-        return true;
-    }
-    if high != 0x14 {
-        return false;
-    }
-    octets::take4(s, 3) <= 0x1dd7_6000
-}
-
+// The microseconds of a Time or a TimeTz are an octet and a word of 4.
 fn time_in(s: &[u8]) -> Time
     requires { ⌜ 7 ≤ length (now s) ⌝ }
     ensures { λ r. ⌜ r .micros ≡ unsignedAt (now (s .entry)) 2 5 ⌝ }
@@ -81,17 +67,17 @@ pub fn read_time(s: &[u8]) -> Parsed
     requires { ⌜ (firstBits (now s) ≡ headBits format.Time) × (0 < length (now s)) ⌝ }
     ensures { λ r. ⌜ Parses format.Time (readAs format.Time format.extended (now (s .entry))) r ⌝ }
 {
-    if s.len() != 7 {
+    if s.len() != TIME_LENGTH {
         return Parsed::Refused(Refusal::Length);
     }
     if !is_plain(s) {
         return Parsed::Refused(Refusal::Octet);
     }
-    if !time_fits(s) {
+    let time = time_in(s);
+    if !time.in_range() {
         return Parsed::Refused(Refusal::Range);
     }
     let date = Date::new(0, 0, 0);
-    let time = time_in(s);
     let offset = Offset::new(0);
     let value = Value { date, time, offset };
     Parsed::Stamp(Form::Extended, value)
@@ -101,18 +87,18 @@ pub fn read_time_tz(s: &[u8]) -> Parsed
     requires { ⌜ (firstBits (now s) ≡ headBits format.TimeTz) × (0 < length (now s)) ⌝ }
     ensures { λ r. ⌜ Parses format.TimeTz (readAs format.TimeTz format.extended (now (s .entry))) r ⌝ }
 {
-    if s.len() != 7 {
+    if s.len() != TIME_LENGTH {
         return Parsed::Refused(Refusal::Length);
     }
     let offset = offset_in(s);
     if !offset.in_range() {
         return Parsed::Refused(Refusal::Range);
     }
-    if !time_fits(s) {
+    let time = time_in(s);
+    if !time.in_range() {
         return Parsed::Refused(Refusal::Range);
     }
     let date = Date::new(0, 0, 0);
-    let time = time_in(s);
     let value = Value { date, time, offset };
     Parsed::Stamp(Form::Extended, value)
 }
@@ -121,7 +107,7 @@ pub fn read_datetime(s: &[u8]) -> Parsed
     requires { ⌜ (firstBits (now s) ≡ headBits format.Datetime) × (0 < length (now s)) ⌝ }
     ensures { λ r. ⌜ Parses format.Datetime (readAs format.Datetime format.extended (now (s .entry))) r ⌝ }
 {
-    if s.len() != 10 {
+    if s.len() != DATETIME_LENGTH {
         return Parsed::Refused(Refusal::Length);
     }
     if !is_plain(s) {
@@ -143,7 +129,7 @@ pub fn read_datetime_tz(s: &[u8]) -> Parsed
     requires { ⌜ (firstBits (now s) ≡ headBits format.DatetimeTz) × (0 < length (now s)) ⌝ }
     ensures { λ r. ⌜ Parses format.DatetimeTz (readAs format.DatetimeTz format.extended (now (s .entry))) r ⌝ }
 {
-    if s.len() != 10 {
+    if s.len() != DATETIME_LENGTH {
         return Parsed::Refused(Refusal::Length);
     }
     let offset = offset_in(s);

@@ -9,6 +9,8 @@ ghost use Rattle.format.specs.Octets.{unsignedOctets};
 ghost use Rattle.format.specs.Writing.{encodeIn};
 ghost use Rattle.values.specs.Meaning.{valueFrom};
 ghost use Rattle.values.specs.Promise.{Writes};
+use crate::DATETIME_LENGTH;
+use crate::TIME_LENGTH;
 use crate::head;
 use calendar::Numbered;
 use values::Kind;
@@ -45,11 +47,11 @@ pub fn write_time(value: Value, buf: &mut [u8]) -> Written
     if !time.in_range() {
         return Written::Refused(Refusal::Value);
     }
-    if buf.len() < 7 {
+    if buf.len() < TIME_LENGTH {
         return Written::Refused(Refusal::Buffer);
     }
     put_time_of(buf, head::header(Kind::Time, offset), time.micros);
-    Written::Octets(7)
+    Written::Octets(TIME_LENGTH)
 }
 
 pub fn write_time_tz(value: Value, buf: &mut [u8]) -> Written
@@ -63,11 +65,11 @@ pub fn write_time_tz(value: Value, buf: &mut [u8]) -> Written
     if !offset.in_range() {
         return Written::Refused(Refusal::Value);
     }
-    if buf.len() < 7 {
+    if buf.len() < TIME_LENGTH {
         return Written::Refused(Refusal::Buffer);
     }
     put_time_of(buf, head::header(Kind::TimeTz, offset), time.micros);
-    Written::Octets(7)
+    Written::Octets(TIME_LENGTH)
 }
 
 pub fn write_datetime(value: Value, buf: &mut [u8]) -> Written
@@ -81,11 +83,11 @@ pub fn write_datetime(value: Value, buf: &mut [u8]) -> Written
     let Numbered::Day(day) = calendar::day_number(value.date) else {
         return Written::Refused(Refusal::Value);
     };
-    if buf.len() < 10 {
+    if buf.len() < DATETIME_LENGTH {
         return Written::Refused(Refusal::Buffer);
     }
     put_datetime_of(buf, head::header(Kind::Datetime, offset), day, time.micros);
-    Written::Octets(10)
+    Written::Octets(DATETIME_LENGTH)
 }
 
 pub fn write_datetime_tz(value: Value, buf: &mut [u8]) -> Written
@@ -102,7 +104,7 @@ pub fn write_datetime_tz(value: Value, buf: &mut [u8]) -> Written
     let Numbered::Day(day) = calendar::day_number(value.date) else {
         return Written::Refused(Refusal::Value);
     };
-    if buf.len() < 10 {
+    if buf.len() < DATETIME_LENGTH {
         return Written::Refused(Refusal::Buffer);
     }
     put_datetime_of(
@@ -111,5 +113,5 @@ pub fn write_datetime_tz(value: Value, buf: &mut [u8]) -> Written
         day,
         time.micros,
     );
-    Written::Octets(10)
+    Written::Octets(DATETIME_LENGTH)
 }

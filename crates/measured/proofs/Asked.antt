@@ -6,7 +6,7 @@ use native.Mathlib.Omega.{arith}
 use lib.Dec.{leb}
 use borrow.Author.Tests.{leb-true}
 use Rattle.format.specs.Words.{accepted}
-use Rattle.format.specs.Calendar.{Day, leap, isDay, dayNumber, dayOf, numberAsked, dayAsked}
+use Rattle.format.specs.Calendar.{Day, lastNumber, leap, isDay, dayNumber, dayOf, numberAsked, dayAsked}
 use Rattle.format.proofs.Cases.{passed, same}
 use Rattle.format.proofs.Dates.{short-month, parts, number-small, number-date}
 
@@ -19,10 +19,10 @@ asked-small d n e =
 pub asked-day : (n : ℕ) (d : Day) → accepted d ≡ dayAsked n → isDay d ≡ true
 unfolding dayAsked
 asked-day n d e =
-    let p = passed (leb n 3652058) 2 (accepted (dayOf n)) d (sym e) in
-    rw (same (p .1)) at (number-date n (omega (arith, leb-true n 3652058 (p .0))) .0)
+    let p = passed (leb n lastNumber) 2 (accepted (dayOf n)) d (sym e) in
+    rw (same (p .1)) at (number-date n (omega (arith, leb-true n lastNumber (p .0))) .0)
 
-pub digits-small : (d : Day) → isDay d ≡ true → d .year * 10000 + d .month * 100 + d .day < 100000000
-digits-small d e =
+pub yyyymmdd-small : (d : Day) → isDay d ≡ true → d .year * 10000 + d .month * 100 + d .day < 100000000
+yyyymmdd-small d e =
     let p = parts d e in
     omega (arith, p .year-high, p .month-high, p .day-high, short-month (leap (d .year)) (d .month - 1))

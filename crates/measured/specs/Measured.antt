@@ -1,8 +1,8 @@
 -- The calendar's calls as C functions: what they promise. (`measured_year_start` promises what `calendar::year_start` does.)
 --
 --   numberOr o          the day number that was asked for; -1 where there is no such day
---   digitsOf d          a day as one number, its digits in turn: 20200508 for 2020-05-08
---   dateOr o            the day that was asked for, as `digitsOf`; 0 where there is no such number
+--   yyyymmdd d          a day as one number, its digits in turn: 20200508 for 2020-05-08
+--   dateOr o            the day that was asked for, as `yyyymmdd`; 0 where there is no such number
 --   NumberForC y m d r  `measured_day_number`: the day number of the date, or -1
 --   DateForC n r        `measured_date_of`: the date of the day number, or 0
 use Prim.Native.Nat.{ℕ, _+_, _*_}
@@ -15,11 +15,11 @@ abbrev pub numberOr : Outcome ℕ → ℤ
 numberOr (accepted n) = pos n
 numberOr (refused n) = negsuc 0
 
-unfoldable pub digitsOf : Day → ℕ
-digitsOf d = d .year * 10000 + d .month * 100 + d .day
+unfoldable pub yyyymmdd : Day → ℕ
+yyyymmdd d = d .year * 10000 + d .month * 100 + d .day
 
 abbrev pub dateOr : Outcome Day → ℕ
-dateOr (accepted d) = digitsOf d
+dateOr (accepted d) = yyyymmdd d
 dateOr (refused n) = 0
 
 abbrev pub NumberForC : ℕ → ℕ → ℕ → ℤ → Type 0

@@ -4,7 +4,7 @@ ghost use mathlib.Core.Bool.{true};
 ghost use Rattle.format.specs.Calendar.{isDay};
 ghost use Rattle.calendar.specs.Meaning.{dayFrom};
 ghost use Rattle.calendar.specs.Calls.{YearStart};
-ghost use Rattle.measured.specs.Measured.{digitsOf, NumberForC, DateForC};
+ghost use Rattle.measured.specs.Measured.{yyyymmdd, NumberForC, DateForC};
 use calendar::Date;
 use calendar::Dated;
 use calendar::Numbered;
@@ -21,9 +21,9 @@ pub extern "C" fn measured_day_number(year: u32, month: u32, day: u32) -> i32
 }
 
 // One number, as C has no answer of three: 2020-05-08 is 20200508.
-fn digits_of(date: Date) -> u32
+fn yyyymmdd(date: Date) -> u32
     requires { ⌜ isDay (dayFrom date) ≡ true ⌝ }
-    ensures { λ r. ⌜ r ≡ digitsOf (dayFrom date) ⌝ }
+    ensures { λ r. ⌜ r ≡ yyyymmdd (dayFrom date) ⌝ }
 {
     let year = date.year;
     let month = date.month;
@@ -37,7 +37,7 @@ pub extern "C" fn measured_date_of(number: u32) -> u32
     ensures { λ r. ⌜ DateForC number r ⌝ }
 {
     match calendar::date_of(number) {
-        Dated::Date(date) => digits_of(date),
+        Dated::Date(date) => yyyymmdd(date),
         Dated::NoSuchNumber => 0,
     }
 }

@@ -10,7 +10,7 @@ use lib.ListN.{length}
 use borrow.Author.Tests.{leb-true}
 use Rattle.format.specs.Words.{both, needs, accepted, refused}
 use Rattle.format.specs.Calendar.{Day, isDay}
-use Rattle.format.specs.Values.{Kind, dated, text}
+use Rattle.format.specs.Values.{Kind, dated, timeInRange, text}
 use Rattle.format.specs.TextReading.{digitsFound}
 use Rattle.format.specs.Reading.{readAs}
 use Rattle.format.proofs.Cases.{both-true, both-false}
@@ -21,11 +21,11 @@ use Rattle.values.specs.declared.parts.Offset.{Offset}
 use Rattle.values.specs.Meaning.{valueFrom}
 use Rattle.text.specs.declared.parts.Zone.{Zone}
 use Rattle.text.specs.declared.parts.Clock.{Clock}
-use Rattle.text.specs.Parts.{offsetOf}
-use Rattle.text.specs.Outcomes.{clockFits, outcomeOf}
+use Rattle.text.specs.Parts.{clockInDay, offsetOf}
+use Rattle.text.specs.Outcomes.{outcomeOf}
 use Rattle.text.proofs.Rows.{fails}
 use Rattle.text.proofs.Texts.{accepted-as}
-use Rattle.text.proofs.Places.{Refuses, Said, noZone, refuses}
+use Rattle.text.proofs.Places.{Refuses, Said, noClock, noZone, refuses}
 
 abbrev redundant : Zone → Bool
 redundant z = both (z .minus) (both (eqb (z .hours) 0) (eqb (z .minutes) 0))
@@ -50,26 +50,30 @@ module _ {k : Kind} {d : ℕ} {s : List ℕ} {x : Day} {t : Clock} {z : Zone} wh
     not-redundant e h = record { said = w; plain = sym e ∙ h }
 
   module _ (w : Plain k d s x t z) where
-    out-of-range : outcomeOf k x (t .minute) (t .second) (t .micros) z ≡ refused 8 → Refuses k s 8
+    out-of-range : outcomeOf k x (t .minute) (t .second) (t .time .micros) z ≡ refused 8 → Refuses k s 8
     out-of-range h = refuses (w .said .opened) 8 (w .said .read ∙ h)
 
     pub no-day : {b : Bool} → b ≡ needs (dated k) (isDay x) → not b ≡ true → Refuses k s 8
     no-day e h = out-of-range (unfold outcomeOf in rw (w .plain, fails e h))
 
-    pub no-time : {b : Bool} → b ≡ clockFits (t .minute) (t .second) (t .micros) → not b ≡ true → Refuses k s 8
+    pub no-time : {b : Bool} → b ≡ clockInDay (t .minute) (t .second) (t .time .micros) → not b ≡ true → Refuses k s 8
     no-time e h = out-of-range (unfold outcomeOf in rw (w .plain, fails e h, both-false (needs (dated k) (isDay x))))
 
     pub no-zone : {b : Bool} → b ≡ zoneFits z → not b ≡ true → Refuses k s 8
     no-zone e h =
-        out-of-range (unfold outcomeOf in rw (w .plain, fails e h, both-false (clockFits (t .minute) (t .second) (t .micros)), both-false (needs (dated k) (isDay x))))
+        out-of-range (unfold outcomeOf in rw (w .plain, fails e h, both-false (clockInDay (t .minute) (t .second) (t .time .micros)), both-false (needs (dated k) (isDay x))))
 
-    pub stamped : needs (dated k) (isDay x) ≡ true → clockFits (t .minute) (t .second) (t .micros) ≡ true → zoneFits z ≡ true
-        → {y : Date} {v : Time} {o : Offset} → dayFrom y ≡ x → v ≡ record { micros = t .micros } → o .minutes ≡ offsetOf z
+    pub stamped : needs (dated k) (isDay x) ≡ true → clockInDay (t .minute) (t .second) (t .time .micros) ≡ true → zoneFits z ≡ true
+        → {y : Date} {v : Time} {o : Offset} → dayFrom y ≡ x → v ≡ t .time → o .minutes ≡ offsetOf z
         → accepted (record { kind = k; form = text d; value = valueFrom (record { date = y; time = v; offset = o }) }) ≡ readAs k (text (digitsFound k (length s))) s
     unfolding outcomeOf
     stamped f g h {v = v} a b c =
-        let micros : v .micros ≡ t .micros = ap (λ (u : Time). u .micros) b in
-        accepted-as k d s (w .said .opened .found) _ (w .said .read ∙ rw (w .plain, f, g, h, a, micros, c))
+        accepted-as k d s (w .said .opened .found) _ (w .said .read ∙ rw (w .plain, f, g, h, a, b, c))
+
+-- no time: nothing out of range
+pub no-clock-fits : clockInDay (noClock .minute) (noClock .second) (noClock .time .micros) ≡ true
+unfolding timeInRange
+no-clock-fits = refl
 
 -- no offset: nothing to be redundant
 pub unsigned : {k : Kind} {d : ℕ} {s : List ℕ} {x : Day} {t : Clock} → Said k d s x t noZone → Plain k d s x t noZone

@@ -19,8 +19,7 @@ use Rattle.format.proofs.Decimal.{digits-fail, number-small}
 use Rattle.text.specs.Putting.{fractionField}
 use Rattle.text.specs.Pairs.{rowAt, partAt}
 use Rattle.text.specs.Parts.{minusOf}
-use Rattle.text.specs.Cursors.{joinedAt}
-use Rattle.text.proofs.Rows.{only, are-append, number-append}
+use Rattle.text.proofs.Rows.{are-append, number-append}
 
 -- ---- the fraction
 
@@ -127,14 +126,6 @@ module _ (s : List ℕ) (at : ℕ) where
       let p = row-got centuryRow s at _ e in
       let q = row-got (pairsRow 45) s (at + 2) _ f in
       rw (date-fit, p .0, q .0, date-says c y m d (p .1) (q .1))
-
-  pub not-joined : (getD s (at + 10) 0 ≡ 84 → ⊥) → refused 6 ≡ joinedAt s at
-  unfolding joinedAt
-  not-joined h = rw (ne-eqb (getD s (at + 10) 0) 84 h, both-false (fit (dateRow true) s at))
-
-  pub joined : getD s (at + 10) 0 ≡ 84 → rowAt (dateRow true) s at ≡ joinedAt s at
-  unfolding rowAt joinedAt
-  joined e = rw (eq-eqb (getD s (at + 10) 0) 84 e, only (fit (dateRow true) s at))
 
 -- pairs are below 100
 century-below : (s : List ℕ) (at c : ℕ) → fit centuryRow s at ≡ true → says centuryRow s at ≡ c ∷ [] → c < 100

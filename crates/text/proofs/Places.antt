@@ -1,12 +1,13 @@
--- What is known at each place of a text, from what was answered up to there: its length, then the date, the clock, the fraction and the offset,
--- each read or wrong. Over the kind, the digits and the octets; r is what was answered. Assumes nothing.
+-- What is known at each place of a text, from what was answered up to there: its length, then the date, the `T`, the clock, the fraction and the
+-- offset, each read or wrong. Over the kind, the digits and the octets; r is what was answered. Assumes nothing.
 use mathlib.Core.Path.{_≡_, refl, sym, _∙_, ap}
 use mathlib.Core.Bool.{true, false}
 use mathlib.Core.List.{List, [], _∷_}
-use Prim.Native.Nat.{ℕ, _+_, _≤_}
+use Prim.Native.Nat.{ℕ, _+_, _<_, _≤_}
 use native.Mathlib.Nat.{zero-mul}
 use native.Mathlib.Omega.{arith}
-use lib.ListN.{length}
+use lib.ListN.{length, getD}
+use borrow.Author.Tests.{ne-eqb}
 use Rattle.format.specs.Words.{refused}
 use Rattle.format.specs.Calendar.{Day, noDate}
 use Rattle.format.specs.Values.{Kind, dated, timed, zoned, text}
@@ -22,6 +23,8 @@ use Rattle.text.specs.declared.parts.Zone.{Zone}
 use Rattle.text.specs.declared.cursor.Cursor.{Cursor}
 use Rattle.text.specs.declared.cursor.Dated.{Dated}
 use Rattle.text.specs.declared.cursor.Dated.the-variants as D
+use Rattle.text.specs.declared.cursor.Joined.{Joined}
+use Rattle.text.specs.declared.cursor.Joined.the-variants as J
 use Rattle.text.specs.declared.cursor.Timed.{Timed}
 use Rattle.text.specs.declared.cursor.Timed.the-variants as T
 use Rattle.text.specs.declared.cursor.Parted.{Parted}
@@ -31,12 +34,12 @@ use Rattle.text.specs.declared.cursor.Zoned.the-variants as Z
 use Rattle.text.specs.Putting.{fractionField}
 use Rattle.text.specs.Pairs.{rowAt, partAt}
 use Rattle.text.specs.Parts.{minusOf}
-use Rattle.text.specs.Cursors.{datedRow, timedRow, partedRow, zonedRow, datedTo, timedTo, partedTo, joinedAt}
+use Rattle.text.specs.Cursors.{datedRow, timedRow, partedRow, zonedRow, datedTo, joinedTo, timedTo, partedTo}
 use Rattle.text.specs.Outcomes.{outcomeOf}
 use Rattle.text.proofs.Rows.{absent-row}
 use Rattle.text.proofs.PartLaws.{Below100, pairsRow, row-got, row-not, three-small}
-use Rattle.text.proofs.Wholes.{date-width, clock-width, zone-width, parts-long, joined-whole, not-joined, alone-fit, alone-says, behind-fit, behind-says, part-got, part-not, part-below}
-use Rattle.text.proofs.Texts.{microsOf, text-parts, no-date, no-clock, no-joint, no-offset, refused-as, as-long}
+use Rattle.text.proofs.Wholes.{date-width, clock-width, zone-width, parts-long, alone-fit, alone-says, behind-fit, behind-says, part-got, part-not, part-below}
+use Rattle.text.proofs.Texts.{microsOf, text-parts, no-date, no-clock, no-offset, refused-as, as-long}
 
 -- the answer is that number
 abbrev pub Refuses : Kind → List ℕ → ℕ → Type 0
@@ -46,6 +49,12 @@ Refuses k s n = refused n ≡ readAs k (text (digitsFound k (length s))) s
 pub record Opened (k : Kind) (d : ℕ) (s : List ℕ) : Type 0 where
   pub found : d ≡ digitsFound k (length s)
   pub few : d ≤ 6
+
+-- the date is read: a is behind it
+pub record Headed (k : Kind) (d : ℕ) (s : List ℕ) (x : Day) (a : ℕ) : Type 0 where
+  pub opened : Opened k d s
+  pub ten : a ≡ 10
+  pub date : Whole (dateRow (dated k)) s 0 (x .year ∷ x .month ∷ x .day ∷ []) a
 
 -- the date is read, where the kind has one, and the `T` behind it: at a is the clock
 pub record Front (k : Kind) (d : ℕ) (s : List ℕ) (x : Day) (a : ℕ) : Type 0 where
@@ -71,16 +80,16 @@ pub record Rear (k : Kind) (d : ℕ) (s : List ℕ) (x : Day) (t : Clock) (a : �
   pub opened : Opened k d s
   pub next : a ≡ widths (dateRow (dated k)) + widths (clockRow (timed k) (dated k) d)
   pub reads : (z : Zone) → Whole (offsetRow (zoned k)) s a (minusOf (z .minus) ∷ z .hours ∷ z .minutes ∷ []) (a + widths (offsetRow (zoned k)))
-      → readText k d s ≡ outcomeOf k x (t .minute) (t .second) (t .micros) z
+      → readText k d s ≡ outcomeOf k x (t .minute) (t .second) (t .time .micros) z
 
 -- every octet is right: reading comes to what the numbers say
 pub record Said (k : Kind) (d : ℕ) (s : List ℕ) (x : Day) (t : Clock) (z : Zone) : Type 0 where
   pub opened : Opened k d s
-  pub read : readText k d s ≡ outcomeOf k x (t .minute) (t .second) (t .micros) z
+  pub read : readText k d s ≡ outcomeOf k x (t .minute) (t .second) (t .time .micros) z
 
 -- what stands for a time and for an offset that a kind has not
 abbrev pub noClock : Clock
-noClock = record { minute = 0; second = 0; micros = 0 }
+noClock = record { minute = 0; second = 0; time = record { micros = 0 } }
 
 abbrev pub noZone : Zone
 noZone = record { minus = false; hours = 0; minutes = 0 }
@@ -89,17 +98,20 @@ noZone = record { minus = false; hours = 0; minutes = 0 }
 module _ {k : Kind} {d : ℕ} {s : List ℕ} where
   module _ (o : Opened k d s) {r : Dated} {x : Date} {c : Cursor} (e : r ≡ D.Read x c) where
     abbrev pub AfterDate : Type 0
-    AfterDate = Rear k d s (dayFrom x) noClock (c .at)
-
-    abbrev pub AfterJoint : Type 0
-    AfterJoint = Front k d s (dayFrom x) (c .at)
+    AfterDate = Headed k d s (dayFrom x) (c .at)
 
   module _ {x : Day} {a : ℕ} where
+    abbrev pub AfterNoTime : Headed k d s x a → Type 0
+    AfterNoTime f = Rear k d s x noClock a
+
+    abbrev pub AfterJoint : Headed k d s x a → {r : Joined} {c : Cursor} → r ≡ J.Read c → Type 0
+    AfterJoint f {c = c} e = Front k d s x (c .at)
+
     abbrev pub AfterClock : Front k d s x a → {r : Timed} {h m n : ℕ} {c : Cursor} → r ≡ T.Read h m n c → Type 0
     AfterClock f {h = h} {m = m} {n = n} {c = c} e = Paired k d s x h m n (c .at)
 
     abbrev pub AfterPart : {h m n : ℕ} → Paired k d s x h m n a → {r : Parted} {u : ℕ} {c : Cursor} → r ≡ P.Read u c → Type 0
-    AfterPart {h} {m} {n} f {u = u} {c = c} e = Rear k d s x (record { minute = m; second = n; micros = microsOf h m n u }) (c .at)
+    AfterPart {h} {m} {n} f {u = u} {c = c} e = Rear k d s x (record { minute = m; second = n; time = record { micros = microsOf h m n u } }) (c .at)
 
     abbrev pub AfterAll : {t : Clock} → Rear k d s x t a → Clock → Zone → Type 0
     AfterAll f t z = Said k d s x t z
@@ -123,40 +135,11 @@ module _ {k : Kind} {d : ℕ} {s : List ℕ} (o : Opened k d s) where
     pub date-room : 10 ≤ length s
     date-room = omega (arith, ten, long)
 
-    pub date-read : timed k ≡ false → {r : Dated} {x : Date} {c : Cursor} (e : r ≡ D.Read x c) → (datedRow r ≡ rowAt (dateRow (dated k)) s 0) × datedTo 10 r → AfterDate o e
-    date-read t {x = x} {c = c} e h =
+    pub date-read : {r : Dated} {x : Date} {c : Cursor} (e : r ≡ D.Read x c) → (datedRow r ≡ rowAt (dateRow (dated k)) s 0) × datedTo 10 r → AfterDate o e
+    date-read {c = c} e h =
         let place : c .at ≡ 10 = rw e at (h .1) in
         let p = row-got (dateRow (dated k)) s 0 _ (sym (h .0) ∙ ap datedRow e) in
-        let none : widths (clockRow (timed k) (dated k) d) ≡ 0 = rw t (clock-width false (dated k) d) in
-        record {
-          opened = o;
-          next = omega (arith, place, ten, none);
-          reads = λ z w. text-parts k d s (o .few) (dayFrom x) 0 0 0 0 0 (c .at) (c .at) _ z (record { fits = p .0; says = p .1; next = omega (arith, place, ten) })
-              (rw t (absent-row 4 s (c .at))) w (sym (zero-mul _)) (omega arith);
-        }
-
-  -- a date with a `T`
-  module _ (b : dated k ≡ true) (t : timed k ≡ true) where
-    pub joined-room : 11 ≤ length s
-    joined-room =
-        let f : widths (clockRow (timed k) (dated k) d) ≡ 9 + width (fractionField d) = rw (b, t) (clock-width true true d) in
-        omega (arith, ten b, f, long)
-
-    pub joined-wrong : {r : Dated} → r ≡ D.Refused → datedRow r ≡ joinedAt s 0 → Refuses k s 6
-    joined-wrong e h = refuses 6 (no-joint k d s (o .few) 10 (sym (ten b)) (rw (b, t) (not-joined d s 6 (sym h ∙ ap datedRow e))))
-
-    pub joined-read : {r : Dated} {x : Date} {c : Cursor} (e : r ≡ D.Read x c) → (datedRow r ≡ joinedAt s 0) × datedTo 11 r → AfterJoint o e
-    joined-read {x = x} {c = c} e h =
-        let place : c .at ≡ 11 = rw e at (h .1) in
-        let w = joined-whole s _ (sym (h .0) ∙ ap datedRow e) in
-        record {
-          opened = o;
-          behind = 10;
-          date = rw b (w .date);
-          fits = rw (b, t, place, behind-fit d s, w .mark);
-          says = rw (b, t, place, behind-says d s);
-          next = rw (b, t) (omega (arith, place, clock-width true true d));
-        }
+        record { opened = o; ten = place; date = record { fits = p .0; says = p .1; next = omega (arith, place, ten) } }
 
   -- no date
   pub alone : dated k ≡ false → timed k ≡ true → Front k d s noDate 0
@@ -169,6 +152,42 @@ module _ {k : Kind} {d : ℕ} {s : List ℕ} (o : Opened k d s) where
         says = rw (b, t);
         next = rw (b, t) (omega (arith, clock-width true false d));
       }
+
+module _ {k : Kind} {d : ℕ} {s : List ℕ} {x : Day} {a : ℕ} (f : Headed k d s x a) where
+  -- no time
+  pub untimed : timed k ≡ false → AfterNoTime f
+  untimed t =
+      let none : widths (clockRow (timed k) (dated k) d) ≡ 0 = rw t (clock-width false (dated k) d) in
+      record {
+        opened = f .opened;
+        next = omega (arith, f .date .next, none);
+        reads = λ z w. text-parts k d s (f .opened .few) x 0 0 0 0 0 a a _ z (f .date) (rw t (absent-row 4 s a)) w (sym (zero-mul _)) (omega arith);
+      }
+
+  -- ---- the `T`
+
+  module _ (b : dated k ≡ true) (t : timed k ≡ true) where
+    pub joint-room : a < length s
+    joint-room =
+        let w : widths (clockRow (timed k) (dated k) d) ≡ 9 + width (fractionField d) = rw (b, t) (clock-width true true d) in
+        omega (arith, f .date .next, w, long (f .opened))
+
+    pub joint-wrong : {r : Joined} → r ≡ J.Refused → joinedTo s a r → Refuses k s 6
+    joint-wrong e h =
+        let none : getD s 10 0 ≡ 84 → ⊥ = rw (f .ten, e) at h in
+        refuses (f .opened) 6 (no-clock k d s (f .opened .few) 10 (omega (arith, f .date .next, f .ten)) (rw (b, t, behind-fit d s, ne-eqb (getD s 10 0) 84 none)))
+
+    pub joint-read : {r : Joined} {c : Cursor} (e : r ≡ J.Read c) → joinedTo s a r → AfterJoint f e
+    joint-read {c = c} e h =
+        let there : (getD s 10 0 ≡ 84) × (c .at ≡ 11) = rw (f .ten, e) at h in
+        record {
+          opened = f .opened;
+          behind = 10;
+          date = rw (f .ten) at (f .date);
+          fits = rw (b, t, there .1, behind-fit d s, there .0);
+          says = rw (b, t, there .1, behind-says d s);
+          next = rw (b, t) (omega (arith, there .1, clock-width true true d));
+        }
 
 -- ---- the clock
 

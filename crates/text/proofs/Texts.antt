@@ -12,7 +12,7 @@ use lib.ListN.{length}
 use borrow.Author.Tests.{eqb-true, eqb-false, eq-eqb, ne-eqb, le-leb, lt-leb}
 use Rattle.format.specs.Words.{pick, both, either, accepted, refused}
 use Rattle.format.specs.Calendar.{Day}
-use Rattle.format.specs.Values.{Kind, dated, timed, zoned, Value, text}
+use Rattle.format.specs.Values.{Kind, dated, timed, zoned, Value, timeInRange, text}
 use Rattle.format.specs.Fields.{widths, fit, says}
 use Rattle.format.specs.Text.{dateRow, clockRow, offsetRow, layout, textLength, fractionUnit}
 use Rattle.format.specs.TextReading.{digitsFound, minusZero, clockInRange, numbersInRange, textValue, readFields, readText}
@@ -22,9 +22,9 @@ use Rattle.format.proofs.Clock.{seven}
 use Rattle.format.proofs.Fields.{Whole, fit-append}
 use Rattle.format.proofs.Choosing.{found-fits}
 use Rattle.text.specs.declared.parts.Zone.{Zone}
-use Rattle.text.specs.Parts.{minusOf, offsetOf}
-use Rattle.text.specs.Outcomes.{clockFits, outcomeOf}
-use Rattle.text.proofs.Rows.{joined, grouped}
+use Rattle.text.specs.Parts.{clockInDay, minusOf, offsetOf}
+use Rattle.text.specs.Outcomes.{outcomeOf}
+use Rattle.text.proofs.Rows.{joined}
 
 -- ---- the whole text
 
@@ -45,7 +45,8 @@ end-of-day m n q z t f =
     last false t f a b = sym (lt-leb (microsOf 24 m n q) 86400000000 (omega (arith, a, b, f refl)))
 
 late : (h m n q : ℕ) (z : Bool) → m ≤ 59 → n ≤ 59 → q < 1000000 → (z ≡ true → q ≡ 0) → (z ≡ false → 0 < q)
-    → either (leb h 23) (both (eqb h 24) (both (eqb m 0) (both (eqb n 0) z))) ≡ leb (microsOf h m n q) 86400000000
+    → either (leb h 23) (both (eqb h 24) (both (eqb m 0) (both (eqb n 0) z))) ≡ timeInRange (microsOf h m n q)
+unfolding timeInRange
 late h m n q z hm hn hq t f =
     ⊎-elim (λ a. rw (le-leb h 23 (omega arith)) (sym (le-leb (microsOf h m n q) 86400000000 (omega arith))))
     (λ a. ⊎-elim (λ e. rw (lt-leb h 23 (omega arith), eq-eqb h 24 e) (end-of-day m n q z t f ∙ rw e))
@@ -58,10 +59,10 @@ zero-part p u e = rw (eqb-true p 0 e) (zero-mul u)
 some-part : (p u : ℕ) → 0 < u → eqb p 0 ≡ false → 0 < p * u
 some-part p u h e = let n = eqb-false p 0 e in omega (arith, n, le-mul-of-pos-right p h)
 
-clock-fits : (h m n p u : ℕ) → p * u < 1000000 → 0 < u
+in-day : (h m n p u : ℕ) → p * u < 1000000 → 0 < u
     → both (leb m 59) (both (leb n 59) (either (leb h 23) (both (eqb h 24) (both (eqb m 0) (both (eqb n 0) (eqb p 0))))))
-    ≡ clockFits m n (microsOf h m n (p * u))
-clock-fits h m n p u hp hu =
+    ≡ clockInDay m n (microsOf h m n (p * u))
+in-day h m n p u hp hu =
     ⊎-elim (λ a. rw (lt-leb m 59 a))
     (λ a. ⊎-elim (λ b. rw (le-leb m 59 a, lt-leb n 59 b)) (λ b. rw (le-leb m 59 a, le-leb n 59 b) (late h m n (p * u) (eqb p 0) a b hp (zero-part p u) (some-part p u hu))) (lt-or-le 59 n))
     (lt-or-le 59 m)
@@ -90,7 +91,7 @@ module _ (k : Kind) (d : ℕ) (s : List ℕ) (l : d ≤ 6) where
   unfolding readText readFields layout outcomeOf numbersInRange clockInRange minusZero textValue offsetOf
   text-parts x h m n f u p q r z a b c e t =
       let w = joined _ _ s 0 _ _ p r a (joined _ _ s p _ _ q r b c) in
-      rw (le-leb d 6 l, w .fits, w .says, minus-one (z .minus), minus-sign (z .minus), e, clock-fits h m n f (fractionUnit d) (rw e at t) (unit-some d l))
+      rw (le-leb d 6 l, w .fits, w .says, minus-one (z .minus), minus-sign (z .minus), e, in-day h m n f (fractionUnit d) (rw e at t) (unit-some d l))
 
   layout-fit : fit (layout k d) s 0
       ≡ both (fit (dateRow (dated k)) s 0) (both (fit (clockRow (timed k) (dated k) d) s (widths (dateRow (dated k))))
@@ -112,12 +113,6 @@ module _ (k : Kind) (d : ℕ) (s : List ℕ) (l : d ≤ 6) where
 
   pub no-clock : (p : ℕ) → p ≡ widths (dateRow (dated k)) → fit (clockRow (timed k) (dated k) d) s p ≡ false → readText k d s ≡ refused 6
   no-clock p h e = unfit (layout-fit ∙ rw (rw h at e) (both-false (fit (dateRow (dated k)) s 0)))
-
-  pub no-joint : (p : ℕ) → p ≡ widths (dateRow (dated k)) → both (fit (dateRow (dated k)) s 0) (fit (clockRow (timed k) (dated k) d) s p) ≡ false → readText k d s ≡ refused 6
-  no-joint p h e =
-      let c = fit (clockRow (timed k) (dated k) d) s (widths (dateRow (dated k))) in
-      let z = fit (offsetRow (zoned k)) s (widths (dateRow (dated k)) + widths (clockRow (timed k) (dated k) d)) in
-      unfit (layout-fit ∙ sym (grouped (fit (dateRow (dated k)) s 0) c z) ∙ rw (rw h at e))
 
   pub no-offset : (q : ℕ) → q ≡ widths (dateRow (dated k)) + widths (clockRow (timed k) (dated k) d) → fit (offsetRow (zoned k)) s q ≡ false → readText k d s ≡ refused 6
   no-offset q h e =

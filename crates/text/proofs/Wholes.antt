@@ -1,5 +1,5 @@
--- The rows of a text: how wide each is, a clock's from its pairs and its fraction, alone and behind a date, and a date's with its `T`. Assumes nothing.
-use mathlib.Core.Path.{_≡_, refl, sym, _∙_}
+-- The rows of a text: how wide each is, and a clock's from its pairs and its fraction, alone and behind a date's `T`. Assumes nothing.
+use mathlib.Core.Path.{_≡_, refl, _∙_}
 use mathlib.Core.Logic.{⊎-elim}
 use mathlib.Core.Bool.{Bool, true, false, not}
 use mathlib.Core.List.{List, [], _∷_, _++_}
@@ -13,12 +13,11 @@ use Rattle.format.specs.Digits.{areDigits}
 use Rattle.format.specs.Values.{Kind, dated, timed, zoned}
 use Rattle.format.specs.Fields.{Field, after, when, width, fitsAt, saysAt, widths, fit, says}
 use Rattle.format.specs.Text.{dateRow, clockRow, offsetRow, layout, textLength, fractionUnit}
-use Rattle.format.proofs.Cases.{both-true, passed, failed, same, eq-or-ne}
+use Rattle.format.proofs.Cases.{both-true, passed, failed, eq-or-ne}
 use Rattle.format.proofs.Decimal.{number-small}
-use Rattle.format.proofs.Fields.{Whole, widths-append, fit-append, says-append}
+use Rattle.format.proofs.Fields.{widths-append, fit-append, says-append}
 use Rattle.text.specs.Putting.{fractionField}
 use Rattle.text.specs.Pairs.{partAt}
-use Rattle.text.specs.Cursors.{joinedAt}
 use Rattle.text.proofs.Rows.{only, grouped}
 use Rattle.text.proofs.PartLaws.{pairsRow, part-small}
 
@@ -59,19 +58,7 @@ fraction-narrow d = go (eqb d 0)
     go true = unfold width in omega arith
     go false = unfold width in omega arith
 
--- ---- rows that are whole
-
-module _ (s : List ℕ) where
-  pub record Joined (vs : List ℕ) : Type 0 where
-    pub date : Whole (dateRow true) s 0 vs 10
-    pub mark : eqb (getD s 10 0) 84 ≡ true
-
-  pub joined-whole : (vs : List ℕ) → joinedAt s 0 ≡ accepted vs → Joined vs
-  unfolding joinedAt widths width
-  joined-whole vs e =
-      let p = passed (both (fit (dateRow true) s 0) (eqb (getD s 10 0) 84)) 6 _ _ e in
-      let b = both-true (fit (dateRow true) s 0) _ (p .0) in
-      record { date = record { fits = b .0; says = same (p .1); next = refl }; mark = b .1 }
+-- ---- what the rows are made of
 
 -- one field is a row
 one-fit : (f : Field) (s : List ℕ) (at : ℕ) → fit (f ∷ []) s at ≡ fitsAt f s at
@@ -98,7 +85,7 @@ module _ (d : ℕ) (s : List ℕ) where
   pub alone-says : (at : ℕ) → says (clockRow true false d) s at ≡ says (pairsRow 58) s at ++ (saysAt (fractionField d) s (at + 8) ∷ [])
   alone-says at = says-append (pairsRow 58) (fractionField d ∷ []) s at ∙ rw (pairs-width 58, one-says (fractionField d) s (at + 8))
 
-  -- and behind a date
+  -- and behind a date: its `T` first
   pub behind-fit : fit (clockRow true true d) s 10 ≡ both (eqb (getD s 10 0) 84) (fit (clockRow true false d) s 11)
   unfolding fit fitsAt width
   behind-fit = grouped (eqb (getD s 10 0) 84) (areDigits s 11 2) _
@@ -117,13 +104,6 @@ module _ (d : ℕ) (s : List ℕ) where
   pub part-not : (at n : ℕ) → partAt d s at ≡ refused n → fitsAt (fractionField d) s at ≡ false
   unfolding partAt
   part-not at n e = failed (fitsAt (fractionField d) s at) 6 n _ e
-
-  -- a date with no `T` behind it: either is wrong
-  pub not-joined : (n : ℕ) → joinedAt s 0 ≡ refused n → both (fit (dateRow true) s 0) (fit (clockRow true true d) s 10) ≡ false
-  unfolding joinedAt
-  not-joined n e =
-      let f = failed (both (fit (dateRow true) s 0) (eqb (getD s 10 0) 84)) 6 n _ e in
-      rw (behind-fit, sym (grouped (fit (dateRow true) s 0) (eqb (getD s 10 0) 84) (fit (clockRow true false d) s 11)), f)
 
   -- how small the fraction is
   pub part-below : (at : ℕ) → d ≤ 6 → fitsAt (fractionField d) s at ≡ true → saysAt (fractionField d) s at * fractionUnit d < 1000000

@@ -2,19 +2,17 @@
 --
 --   datedRow, timedRow, partedRow, zonedRow   what was read, as a row of numbers
 --   datedTo, timedTo, partedTo, zonedTo n r   the next cursor stands at n; of a refusal nothing is said
---   joinedAt s at        what reading a date with a `T` behind it comes to
+--   joinedTo s at r      a `T` stands at `at`, and the next cursor behind it; of a refusal, that none stands there
 use Prim.Native.Nat.{ℕ, _+_}
 use mathlib.Core.Path.{_≡_}
-use mathlib.Core.Bool.{true}
 use mathlib.Core.List.{List, [], _∷_}
-use lib.Dec.{eqb}
 use lib.ListN.{getD}
-use Rattle.format.specs.Words.{both, Outcome, accepted, refused, unless}
-use Rattle.format.specs.Fields.{fit, says}
-use Rattle.format.specs.Text.{dateRow}
+use Rattle.format.specs.Words.{Outcome, accepted, refused}
 use Rattle.text.specs.Parts.{minusOf}
 use Rattle.text.specs.declared.cursor.Dated.{Dated}
 use Rattle.text.specs.declared.cursor.Dated.the-variants as D
+use Rattle.text.specs.declared.cursor.Joined.{Joined}
+use Rattle.text.specs.declared.cursor.Joined.the-variants as J
 use Rattle.text.specs.declared.cursor.Timed.{Timed}
 use Rattle.text.specs.declared.cursor.Timed.the-variants as T
 use Rattle.text.specs.declared.cursor.Parted.{Parted}
@@ -54,5 +52,6 @@ abbrev pub zonedTo : ℕ → Zoned → Type 0
 zonedTo n (Z.Read x c) = c .at ≡ n
 zonedTo n Z.Refused = Unit {0}
 
-unfoldable pub joinedAt : List ℕ → ℕ → Outcome (List ℕ)
-joinedAt s at = unless (both (fit (dateRow true) s at) (eqb (getD s (at + 10) 0) 84)) 6 (accepted (says (dateRow true) s at))
+abbrev pub joinedTo : List ℕ → ℕ → Joined → Type 0
+joinedTo s at (J.Read c) = (getD s at 0 ≡ 84) × (c .at ≡ at + 1)
+joinedTo s at J.Refused = getD s at 0 ≡ 84 → ⊥

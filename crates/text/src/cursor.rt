@@ -2,14 +2,15 @@
 ghost use mathlib.Core.Path.{_≡_};
 ghost use mathlib.Core.Bool.{true};
 ghost use mathlib.Core.List.{[], _∷_};
-ghost use Prim.Native.Nat.{_+_, _≤_};
+ghost use Prim.Native.Nat.{_+_, _<_, _≤_};
 ghost use lib.ListN.{length};
 ghost use Rattle.format.specs.Fields.{digits, after, width};
 ghost use Rattle.format.specs.Text.{dateRow, offsetRow};
 ghost use Rattle.text.specs.Putting.{fractionField};
 ghost use Rattle.text.specs.Pairs.{rowAt, partAt};
-ghost use Rattle.text.specs.Cursors.{datedRow, timedRow, partedRow, zonedRow, joinedAt, datedTo, timedTo, partedTo, zonedTo};
+ghost use Rattle.text.specs.Cursors.{datedRow, timedRow, partedRow, zonedRow, datedTo, joinedTo, timedTo, partedTo, zonedTo};
 use crate::fraction;
+use crate::lengths;
 use crate::pairs;
 use crate::pairs::Number;
 use crate::pairs::ThreePairs;
@@ -23,27 +24,33 @@ pub struct Cursor {
     pub at: usize,
 }
 
-// Refused: an octet is wrong. So too below.
+// Refused: an octet is wrong. It stands first, here and below: so the steps behind several others are still inlined (it seems that the compiler takes
+// the first case for the rarer one).
 pub enum Dated {
-    Read(Date, Cursor),
     Refused,
+    Read(Date, Cursor),
+}
+
+pub enum Joined {
+    Refused,
+    Read(Cursor),
 }
 
 // Hour, minute and second.
 pub enum Timed {
-    Read(u32, u32, u32, Cursor),
     Refused,
+    Read(u32, u32, u32, Cursor),
 }
 
 // The microseconds of a second.
 pub enum Parted {
-    Read(u32, Cursor),
     Refused,
+    Read(u32, Cursor),
 }
 
 pub enum Zoned {
-    Read(Zone, Cursor),
     Refused,
+    Read(Zone, Cursor),
 }
 
 impl Cursor {
@@ -60,23 +67,22 @@ impl Cursor {
         };
         Dated::Read(
             Date::new(century * 100 + year, month, day),
-            Cursor { at: at + 10 },
+            Cursor {
+                at: at + lengths::DATE,
+            },
         )
     }
 
-    // With the `T` behind it.
-    pub fn joined_date(self, s: &[u8]) -> Dated
-        requires { ⌜ self .at + 11 ≤ length (now s) ⌝ }
-        ensures { λ r. ⌜ (datedRow r ≡ joinedAt (now (s .entry)) (self .at)) × datedTo (self .at + 11) r ⌝ }
+    // The `T` behind a date.
+    pub fn joint(self, s: &[u8]) -> Joined
+        requires { ⌜ self .at < length (now s) ⌝ }
+        ensures { λ r. ⌜ joinedTo (now (s .entry)) (self .at) r ⌝ }
     {
         let at = self.at;
-        if s[at + 10] != 84 {
-            return Dated::Refused;
+        if s[at] != parts::T {
+            return Joined::Refused;
         }
-        let Dated::Read(date, mark) = self.date(s) else {
-            return Dated::Refused;
-        };
-        Dated::Read(date, Cursor { at: mark.at + 1 })
+        Joined::Read(Cursor { at: at + 1 })
     }
 
     pub fn clock(self, s: &[u8]) -> Timed
@@ -87,7 +93,14 @@ impl Cursor {
         let ThreePairs::Read(hour, minute, second) = pairs::three_pairs(s, at, 58) else {
             return Timed::Refused;
         };
-        Timed::Read(hour, minute, second, Cursor { at: at + 8 })
+        Timed::Read(
+            hour,
+            minute,
+            second,
+            Cursor {
+                at: at + lengths::TIME,
+            },
+        )
     }
 
     pub fn fraction(self, s: &[u8], digits: u32) -> Parted
@@ -130,6 +143,11 @@ impl Cursor {
             hours,
             minutes,
         };
-        Zoned::Read(zone, Cursor { at: at + 6 })
+        Zoned::Read(
+            zone,
+            Cursor {
+                at: at + lengths::OFFSET,
+            },
+        )
     }
 }

@@ -1,4 +1,4 @@
-// The lengths of texts: how many fraction digits one has.
+// The lengths of texts and of their parts, and how many fraction digits a text has.
 ghost use mathlib.Core.Path.{_≡_};
 ghost use Rattle.format.specs.Text.{textLength};
 ghost use Rattle.format.specs.TextReading.{digitsFound};
@@ -6,17 +6,36 @@ ghost use Rattle.values.specs.Meaning.{kindFrom};
 use values::Kind;
 use values::Settings;
 
+// The parts, in octets: `yyyy-mm-dd`, `hh:mm:ss` and an offset.
+pub const DATE: usize = 10;
+
+pub const TIME: usize = 8;
+
+pub const OFFSET: usize = 6;
+
+// Texts of several parts, without a fraction.
+pub const DATE_TZ: usize = DATE + OFFSET;
+
+const TIME_TZ: usize = TIME + OFFSET;
+
+// The time of a date-time stands behind its `T`.
+pub const TIME_AT: usize = DATE + 1;
+
+pub const DATETIME: usize = TIME_AT + TIME;
+
+const DATETIME_TZ: usize = DATETIME + OFFSET;
+
 // The length of a text without a fraction.
 fn whole_length(kind: Kind) -> usize
     ensures { λ r. ⌜ r ≡ textLength (kindFrom kind) 0 ⌝ }
 {
     match kind {
-        Kind::Date => 10,
-        Kind::DateTz => 16,
-        Kind::Time => 8,
-        Kind::TimeTz => 14,
-        Kind::Datetime => 19,
-        Kind::DatetimeTz => 25,
+        Kind::Date => DATE,
+        Kind::DateTz => DATE_TZ,
+        Kind::Time => TIME,
+        Kind::TimeTz => TIME_TZ,
+        Kind::Datetime => DATETIME,
+        Kind::DatetimeTz => DATETIME_TZ,
     }
 }
 

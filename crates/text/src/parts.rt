@@ -3,14 +3,25 @@ ghost use mathlib.Core.Path.{_≡_};
 ghost use Prim.Native.Nat.{_+_, _*_, _≤_};
 ghost use lib.Dec.{leb, eqb};
 ghost use Rattle.format.specs.Words.{both, either};
-ghost use Rattle.text.specs.Parts.{offsetOf};
+ghost use Rattle.text.specs.Parts.{clockInDay, offsetOf};
 use values::Offset;
+use values::Time;
 
-// `micros` are those of the whole time, hour and all.
+// What joins a date and a time.
+pub const T: u8 = b'T';
+
+pub const PLUS: u8 = b'+';
+
+pub const MINUS: u8 = b'-';
+
+// Minutes of an hour and seconds of a minute go up to this.
+const LAST_SIXTIETH: u32 = 59;
+
+// `time` is all of it: hour, minute, second and fraction.
 pub struct Clock {
     pub minute: u32,
     pub second: u32,
-    pub micros: u64,
+    pub time: Time,
 }
 
 pub struct Zone {
@@ -24,8 +35,8 @@ pub fn is_sign(octet: u8) -> bool
     ensures { λ r. ⌜ r ≡ either (eqb octet 43) (eqb octet 45) ⌝ }
 {
     match octet {
-        43 => true,
-        45 => true,
+        PLUS => true,
+        MINUS => true,
         _ => false,
     }
 }
@@ -33,37 +44,37 @@ pub fn is_sign(octet: u8) -> bool
 pub fn is_minus(octet: u8) -> bool
     ensures { λ r. ⌜ r ≡ eqb octet 45 ⌝ }
 {
-    octet == 45
+    octet == MINUS
 }
 
 impl Clock {
     pub fn new(hour: u32, minute: u32, second: u32, part: u32) -> Clock
         requires { ⌜ (hour ≤ 255) × (minute ≤ 255) × (second ≤ 255) ⌝ }
-        ensures { λ r. ⌜ r ≡ record { minute = minute; second = second; micros = (hour * 3600 + minute * 60 + second) * 1000000 + part } ⌝ }
+        ensures { λ r. ⌜ r ≡ record { minute = minute; second = second; time = record { micros = (hour * 3600 + minute * 60 + second) * 1000000 + part } } ⌝ }
     {
         let seconds = hour * 3_600 + minute * 60 + second;
-        let micros = seconds as u64 * 1_000_000 + part as u64;
+        let time = Time::new(seconds as u64 * 1_000_000 + part as u64);
         Clock {
             minute,
             second,
-            micros,
+            time,
         }
     }
 
     // Where no minute and no second is above 59, the hour is one of the day, or 24 with nothing behind it: then the whole is at most a day.
     pub fn in_range(self) -> bool
-        ensures { λ r. ⌜ r ≡ both (leb (self .minute) 59) (both (leb (self .second) 59) (leb (self .micros) 86400000000)) ⌝ }
+        ensures { λ r. ⌜ r ≡ clockInDay (self .minute) (self .second) (self .time .micros) ⌝ }
     {
         let minute = self.minute;
         let second = self.second;
-        let micros = self.micros;
-        if 59 < minute {
+        let time = self.time;
+        if LAST_SIXTIETH < minute {
             return false;
         }
-        if 59 < second {
+        if LAST_SIXTIETH < second {
             return false;
         }
-        micros <= 86_400_000_000
+        time.in_range()
     }
 }
 
@@ -87,7 +98,7 @@ impl Zone {
         if 23 < hours {
             return false;
         }
-        minutes <= 59
+        minutes <= LAST_SIXTIETH
     }
 
     // The sign is that of the whole: -00:30 is -30.

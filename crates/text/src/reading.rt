@@ -6,6 +6,7 @@ ghost use Rattle.format.specs.Reading.{readAs};
 ghost use Rattle.values.specs.Promise.{Parses};
 use crate::cursor::Cursor;
 use crate::cursor::Dated;
+use crate::cursor::Joined;
 use crate::cursor::Parted;
 use crate::cursor::Timed;
 use crate::cursor::Zoned;
@@ -87,7 +88,7 @@ pub fn read_time(s: &[u8]) -> Parsed
         return Parsed::Refused(Refusal::Range);
     }
     let date = Date::new(0, 0, 0);
-    let time = Time::new(clock.micros);
+    let time = clock.time;
     let offset = Offset::new(0);
     Parsed::Stamp(Form::Text(digits), Value { date, time, offset })
 }
@@ -120,7 +121,7 @@ pub fn read_time_tz(s: &[u8]) -> Parsed
         return Parsed::Refused(Refusal::Range);
     }
     let date = Date::new(0, 0, 0);
-    let time = Time::new(clock.micros);
+    let time = clock.time;
     let offset = zone.offset();
     Parsed::Stamp(Form::Text(digits), Value { date, time, offset })
 }
@@ -133,10 +134,13 @@ pub fn read_datetime(s: &[u8]) -> Parsed
         return Parsed::Refused(Refusal::Length);
     }
     let start = Cursor { at: 0 };
-    let Dated::Read(date, past_date) = start.joined_date(s) else {
+    let Dated::Read(date, past_date) = start.date(s) else {
         return Parsed::Refused(Refusal::Octet);
     };
-    let Timed::Read(hour, minute, second, past_clock) = past_date.clock(s) else {
+    let Joined::Read(past_joint) = past_date.joint(s) else {
+        return Parsed::Refused(Refusal::Octet);
+    };
+    let Timed::Read(hour, minute, second, past_clock) = past_joint.clock(s) else {
         return Parsed::Refused(Refusal::Octet);
     };
     let Parted::Read(part, _) = past_clock.fraction(s, digits) else {
@@ -149,7 +153,7 @@ pub fn read_datetime(s: &[u8]) -> Parsed
     if !clock.in_range() {
         return Parsed::Refused(Refusal::Range);
     }
-    let time = Time::new(clock.micros);
+    let time = clock.time;
     let offset = Offset::new(0);
     Parsed::Stamp(Form::Text(digits), Value { date, time, offset })
 }
@@ -163,11 +167,14 @@ pub fn read_datetime_tz(s: &[u8]) -> Parsed
         return Parsed::Refused(Refusal::Length);
     }
     let start = Cursor { at: 0 };
-    let Dated::Read(date, past_date) = start.joined_date(s) else {
+    let Dated::Read(date, past_date) = start.date(s) else {
         return Parsed::Refused(Refusal::Octet);
     };
     let is_day = date.in_range();
-    let Timed::Read(hour, minute, second, past_clock) = past_date.clock(s) else {
+    let Joined::Read(past_joint) = past_date.joint(s) else {
+        return Parsed::Refused(Refusal::Octet);
+    };
+    let Timed::Read(hour, minute, second, past_clock) = past_joint.clock(s) else {
         return Parsed::Refused(Refusal::Octet);
     };
     let Parted::Read(part, past_fraction) = past_clock.fraction(s, digits) else {
@@ -189,7 +196,7 @@ pub fn read_datetime_tz(s: &[u8]) -> Parsed
     if !zone.in_range() {
         return Parsed::Refused(Refusal::Range);
     }
-    let time = Time::new(clock.micros);
+    let time = clock.time;
     let offset = zone.offset();
     Parsed::Stamp(Form::Text(digits), Value { date, time, offset })
 }

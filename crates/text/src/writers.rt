@@ -7,6 +7,8 @@ ghost use Rattle.format.specs.Values.{text, Date, DateTz, Time, TimeTz, Datetim
 ghost use Rattle.format.specs.Writing.{encodeIn};
 ghost use Rattle.values.specs.Meaning.{valueFrom};
 ghost use Rattle.values.specs.Promise.{Writes};
+use crate::lengths;
+use crate::parts;
 use crate::writing;
 use values::Refusal;
 use values::Value;
@@ -17,7 +19,7 @@ fn put_joint(buf: &mut [u8])
     requires { ⌜ 11 ≤ length (now buf) ⌝ }
     ensures { λ _. ⌜ now (buf .exit) ≡ set (now (buf .entry)) 10 84 ⌝ }
 {
-    octets::put1(buf, 10, 84);
+    octets::put1(buf, lengths::DATE, parts::T);
 }
 
 pub fn write_date(value: Value, buf: &mut [u8]) -> Written
@@ -27,11 +29,11 @@ pub fn write_date(value: Value, buf: &mut [u8]) -> Written
     if !date.in_range() {
         return Written::Refused(Refusal::Value);
     }
-    if buf.len() < 10 {
+    if buf.len() < lengths::DATE {
         return Written::Refused(Refusal::Buffer);
     }
     writing::put_date(buf, date);
-    Written::Octets(10)
+    Written::Octets(lengths::DATE)
 }
 
 pub fn write_date_tz(value: Value, buf: &mut [u8]) -> Written
@@ -45,12 +47,12 @@ pub fn write_date_tz(value: Value, buf: &mut [u8]) -> Written
     if !offset.in_range() {
         return Written::Refused(Refusal::Value);
     }
-    if buf.len() < 16 {
+    if buf.len() < lengths::DATE_TZ {
         return Written::Refused(Refusal::Buffer);
     }
     writing::put_date(buf, date);
-    writing::put_offset(buf, 10, offset);
-    Written::Octets(16)
+    writing::put_offset(buf, lengths::DATE, offset);
+    Written::Octets(lengths::DATE_TZ)
 }
 
 pub fn write_time(value: Value, digits: u32, buf: &mut [u8]) -> Written
@@ -61,7 +63,7 @@ pub fn write_time(value: Value, digits: u32, buf: &mut [u8]) -> Written
     if !time.in_range() {
         return Written::Refused(Refusal::Value);
     }
-    let length = 8 + writing::fraction_length(digits);
+    let length = lengths::TIME + writing::fraction_length(digits);
     if buf.len() < length {
         return Written::Refused(Refusal::Buffer);
     }
@@ -81,8 +83,8 @@ pub fn write_time_tz(value: Value, digits: u32, buf: &mut [u8]) -> Written
     if !offset.in_range() {
         return Written::Refused(Refusal::Value);
     }
-    let zone = 8 + writing::fraction_length(digits);
-    let length = zone + 6;
+    let zone = lengths::TIME + writing::fraction_length(digits);
+    let length = zone + lengths::OFFSET;
     if buf.len() < length {
         return Written::Refused(Refusal::Buffer);
     }
@@ -103,13 +105,13 @@ pub fn write_datetime(value: Value, digits: u32, buf: &mut [u8]) -> Written
     if !time.in_range() {
         return Written::Refused(Refusal::Value);
     }
-    let length = 19 + writing::fraction_length(digits);
+    let length = lengths::DATETIME + writing::fraction_length(digits);
     if buf.len() < length {
         return Written::Refused(Refusal::Buffer);
     }
     writing::put_date(buf, date);
     put_joint(buf);
-    writing::put_time(buf, 11, digits, time);
+    writing::put_time(buf, lengths::TIME_AT, digits, time);
     Written::Octets(length)
 }
 
@@ -129,14 +131,14 @@ pub fn write_datetime_tz(value: Value, digits: u32, buf: &mut [u8]) -> Written
     if !offset.in_range() {
         return Written::Refused(Refusal::Value);
     }
-    let zone = 19 + writing::fraction_length(digits);
-    let length = zone + 6;
+    let zone = lengths::DATETIME + writing::fraction_length(digits);
+    let length = zone + lengths::OFFSET;
     if buf.len() < length {
         return Written::Refused(Refusal::Buffer);
     }
     writing::put_date(buf, date);
     put_joint(buf);
-    writing::put_time(buf, 11, digits, time);
+    writing::put_time(buf, lengths::TIME_AT, digits, time);
     writing::put_offset(buf, zone, offset);
     Written::Octets(length)
 }

@@ -12,6 +12,8 @@ ghost use Rattle.format.specs.Fields.{width};
 ghost use Rattle.octets.specs.Words.{lowOctets};
 ghost use Rattle.calendar.specs.Meaning.{dayFrom};
 ghost use Rattle.text.specs.Putting.{dateOctets, clockOctets, offsetOctets, yearMonthDay, hourMinuteSecond, fractionField, PointDigits, signHourMinute, signMark};
+use crate::parts::MINUS;
+use crate::parts::PLUS;
 use crate::words;
 use calendar::Date;
 use values::Offset;
@@ -121,10 +123,10 @@ pub fn put_time(buf: &mut [u8], at: usize, digits: u32, time: Time)
 
 // ---- the offset
 
-fn sign_mark(minutes: i32) -> u64
+fn sign_mark(minutes: i32) -> u8
     ensures { λ r. ⌜ r ≡ signMark minutes ⌝ }
 {
-    if minutes < 0 { 45 } else { 43 }
+    if minutes < 0 { MINUS } else { PLUS }
 }
 
 // The minutes either way. They are negated before they are split, so that the sign of -00:30 is not that of its hours.
@@ -147,7 +149,7 @@ fn sign_hour_minute(minutes: i32, ahead: u32) -> u64
     let hours = ahead / 60;
     words::offset_digits(hours as u64, (ahead - 60 * hours) as u64)
         + 0x30303a303000
-        + sign_mark(minutes)
+        + sign_mark(minutes) as u64
 }
 
 pub fn put_offset(buf: &mut [u8], at: usize, offset: Offset)

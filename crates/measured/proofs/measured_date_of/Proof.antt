@@ -2,7 +2,7 @@
 use mathlib.Core.Path.{_≡_, sym, _∙_, ap}
 use Rattle.format.specs.Words.{accepted}
 use Rattle.format.specs.Calendar.{dayAsked}
-use Rattle.calendar.specs.Meaning.{dayFrom, dated}
+use Rattle.calendar.specs.Meaning.{dayFrom, dayAnswered}
 use Rattle.measured.specs.Measured.{dateOr}
 use Rattle.measured.proofs.Asked.{asked-day}
 use borrow.Author.Needs.{needs}
@@ -17,21 +17,21 @@ enum-known-date c = search needs
 
 answered : (c : tie.After-known-told)
     → accepted (dayFrom (c .before .date .given .0 .0)) ≡ dayAsked (c .before .before .before .before .args .number)
-answered c = sym (ap dated (c .before .date .given .1)) ∙ c .before .before .before .date-of .ensures
+answered c = sym (ap dayAnswered (c .before .date .given .1)) ∙ c .before .before .before .date-of .ensures
 
-digits-of-requires : tie.Need-digits-of-requires
-digits-of-requires c κs = asked-day _ _ (answered c)
+yyyymmdd-requires : tie.Need-yyyymmdd-requires
+yyyymmdd-requires c κs = asked-day _ _ (answered c)
 
 enum-told : tie.Need-enum-told
 enum-told c = search needs
 
 returns : tie.Need-returns
-returns c = c .digits-of .ensures ∙ ap dateOr (answered (c .before))
+returns c = c .yyyymmdd .ensures ∙ ap dateOr (answered (c .before))
 
 returns-2 : tie.Need-returns-2
-returns-2 c = ap dateOr (sym (ap dated (c .enum-told .given .1)) ∙ c .before .before .date-of .ensures)
+returns-2 c = ap dateOr (sym (ap dayAnswered (c .enum-told .given .1)) ∙ c .before .before .date-of .ensures)
 
 pub measured-date-of-spec : {M : Type 1} → statement M
 measured-date-of-spec =
     tie.close
-    (tie.spec date-of-requires enum-known-date digits-of-requires enum-told returns returns-2)
+    (tie.spec date-of-requires enum-known-date yyyymmdd-requires enum-told returns returns-2)

@@ -5,7 +5,7 @@ use mir.Syntax.{w32}
 use mir.Facts.{toZ-ofZ}
 use Rattle.format.specs.Words.{accepted}
 use Rattle.format.specs.Calendar.{numberAsked}
-use Rattle.calendar.specs.Meaning.{numbered}
+use Rattle.calendar.specs.Meaning.{numberAnswered}
 use Rattle.measured.specs.Measured.{numberOr}
 use Rattle.measured.proofs.Asked.{asked-small}
 use borrow.Author.Needs.{needs}
@@ -26,7 +26,7 @@ answered : (c : tie.After-known-told)
     accepted (c .before .number .given .0 .0) ≡ numberAsked (record { year = a .year; month = a .month; day = a .day }))
 answered c =
     let n = c .before .before .before in
-    sym (ap numbered (c .before .number .given .1)) ∙ (rw (n .before .new .ensures) at (n .day-number .ensures))
+    sym (ap numberAnswered (c .before .number .given .1)) ∙ (rw (n .before .new .ensures) at (n .day-number .ensures))
 
 cast-result : tie.Need-cast-result
 cast-result c = record { sfits = omega (arith, asked-small _ _ (answered c)) }
@@ -40,7 +40,7 @@ returns c = toZ-ofZ {w = w32} (cast-result c) ∙ ap numberOr (answered c)
 returns-2 : tie.Need-returns-2
 returns-2 c =
     let n = c .before .before in
-    ap numberOr (sym (ap numbered (c .enum-told .given .1)) ∙ (rw (n .before .new .ensures) at (n .day-number .ensures)))
+    ap numberOr (sym (ap numberAnswered (c .enum-told .given .1)) ∙ (rw (n .before .new .ensures) at (n .day-number .ensures)))
 
 pub measured-day-number-spec : {M : Type 1} → statement M
 measured-day-number-spec =

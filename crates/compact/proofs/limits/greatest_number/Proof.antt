@@ -9,6 +9,9 @@ use Rattle.compact.proofs.limits.greatest_number.Tie as tie
 dated-requires : tie.Need-dated-requires
 dated-requires c κs = search needs
 
+cast-result : tie.Need-cast-result
+cast-result c = search needs
+
 returns : tie.Need-returns
 unfolding greatest
 returns c = rw (sym (c .before .dated .ensures) ∙ not-true _ (c .if1 .taken))
@@ -30,4 +33,4 @@ returns-4 c = rw (sym (c .before .before .before .before .dated .ensures) ∙ no
 
 pub greatest-number-spec : {M : Type 1} → statement M
 greatest-number-spec =
-    tie.close (tie.spec dated-requires returns timed-requires returns-2 returns-3 returns-4)
+    tie.close (tie.spec dated-requires cast-result returns timed-requires returns-2 returns-3 returns-4)

@@ -8,6 +8,9 @@ use Rattle.compact.proofs.limits.per_day.Tie as tie
 timed-requires : tie.Need-timed-requires
 timed-requires c κs = search needs
 
+cast-result : tie.Need-cast-result
+cast-result c = search needs
+
 returns : tie.Need-returns
 unfolding perDay
 returns c = rw (sym (c .before .timed .ensures) ∙ c .if1 .taken)
@@ -17,4 +20,4 @@ unfolding perDay
 returns-2 c = rw (sym (c .before .timed .ensures) ∙ c .if1 .left)
 
 pub per-day-spec : {M : Type 1} → statement M
-per-day-spec = tie.close (tie.spec timed-requires returns returns-2)
+per-day-spec = tie.close (tie.spec timed-requires cast-result returns returns-2)

@@ -1,6 +1,6 @@
 -- `day_in_range` meets its contract: the other parts first, then one look at the calendar. Assumes nothing.
 use mathlib.Core.Path.{sym, _∙_, ap}
-use Rattle.calendar.specs.Meaning.{numbered}
+use Rattle.calendar.specs.Meaning.{numberAnswered}
 use Rattle.format.proofs.Cases.{not-true, not-false}
 use Rattle.compact.proofs.InRange.{rest-out, without-date, no-such-day, with-date}
 use borrow.Author.Needs.{needs}
@@ -34,7 +34,7 @@ returns-3 : tie.Need-returns-3
 returns-3 c =
     let n = c .before .before in
     let d = n .before .before in
-    no-such-day _ _ (sym (d .before .dated .ensures) ∙ not-false _ (d .if2 .left)) (sym (ap numbered (c .enum-told .given .1)) ∙ n .day-number .ensures)
+    no-such-day _ _ (sym (d .before .dated .ensures) ∙ not-false _ (d .if2 .left)) (sym (ap numberAnswered (c .enum-told .given .1)) ∙ n .day-number .ensures)
 
 returns-4 : tie.Need-returns-4
 returns-4 c =
@@ -42,7 +42,7 @@ returns-4 c =
     let d = n .before .before in
     let r = d .before .before in
     with-date _ _ (sym (r .before .rest-in-range .ensures) ∙ not-false _ (r .if1 .left)) (sym (d .before .dated .ensures) ∙ not-false _ (d .if2 .left)) _
-    (sym (ap numbered (c .before .day .given .1)) ∙ n .day-number .ensures)
+    (sym (ap numberAnswered (c .before .day .given .1)) ∙ n .day-number .ensures)
 
 pub day-in-range-spec : {M : Type 1} → statement M
 day-in-range-spec =

@@ -6,13 +6,14 @@ use lib.IntN.{pos, _-ℤ_}
 use mir.Syntax.{w64}
 use mir.Val.{SFits}
 use mir.Facts.{toZ-pos, toZ-ofZ}
+use Rattle.format.specs.Compact.{epoch}
 use Rattle.compact.proofs.Since.{mag-since}
 use borrow.Author.Needs.{needs}
 use Rattle.compact.proofs.writing.days_since.Statement.{statement}
 use Rattle.compact.proofs.writing.days_since.Tie as tie
 
-fits : (n : ℕ) → n < 2 ^ 32 → SFits w64 (pos n -ℤ pos 737424)
-fits n h = record { sfits = omega (arith, mag-since n 737424) }
+fits : (n : ℕ) → n < 2 ^ 32 → SFits w64 (pos n -ℤ pos epoch)
+fits n h = record { sfits = omega (arith, mag-since n epoch) }
 
 dated-requires : tie.Need-dated-requires
 dated-requires c κs = search needs

@@ -11,7 +11,7 @@ use mir.Facts.{toZ-ofZ, toZ-pos}
 use borrow.Author.Needs.{needs, sfits-of}
 use Rattle.format.specs.Words.{ifAny}
 use Rattle.format.specs.Values.{dated, timed}
-use Rattle.format.specs.Compact.{perDay}
+use Rattle.format.specs.Compact.{epoch, perDay}
 use Rattle.values.specs.Meaning.{kindFrom, valueFrom}
 use Rattle.compact.proofs.Bits.{days-small, times-small, plus-small, millis-small}
 use Rattle.compact.proofs.Flags.{number-made}
@@ -20,7 +20,7 @@ use Rattle.compact.proofs.writing.number_of.Tie as tie
 
 -- days since 2020-01-01
 abbrev days : tie.After-per-day → ℤ
-days c = let a = c .before .before .before .before .args in subℕ (ifAny (dated (kindFrom (a .kind))) (a .day)) (ifAny (dated (kindFrom (a .kind))) 737424)
+days c = let a = c .before .before .before .before .args in subℕ (ifAny (dated (kindFrom (a .kind))) (a .day)) (ifAny (dated (kindFrom (a .kind))) epoch)
 
 -- and their units
 abbrev units : tie.After-per-day → ℤ

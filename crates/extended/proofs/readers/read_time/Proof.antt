@@ -32,26 +32,28 @@ is-plain-requires c κs = (omega arith, c .before .before .pre .0)
 returns-2 : tie.Need-returns-2
 returns-2 c = wrong-octet Time _ 7 0 _ (parts (c .before .before .before .before .args .s .now)) (c .before .before .if1 .left) (sym (c .before .is-plain .ensures) ∙ not-true _ (c .if2 .taken))
 
-time-fits-requires : tie.Need-time-fits-requires
-time-fits-requires c κs = search needs
+time-in-requires : tie.Need-time-in-requires
+time-in-requires c κs = search needs
+
+in-range-requires : tie.Need-in-range-requires
+in-range-requires c κs = search needs
 
 returns-3 : tie.Need-returns-3
-returns-3 c = wrong-time Time _ 7 0 _ (parts (c .before .before .before .before .before .before .args .s .now)) (c .before .before .before .before .if1 .left) (plain (c .before .before)) (sym (c .before .time-fits .ensures) ∙ not-true _ (c .if3 .taken))
+returns-3 c = wrong-time Time _ 7 0 _ (parts (c .before .before .before .before .before .before .before .args .s .now)) (c .before .before .before .before .before .if1 .left) (plain (c .before .before .before)) (rw (c .before .before .time-in .ensures) at (sym (c .before .in-range .ensures) ∙ not-true _ (c .if3 .taken)))
 
 new-requires : tie.Need-new-requires
 new-requires c κs = search needs
-
-time-in-requires : tie.Need-time-in-requires
-time-in-requires c κs = search needs
 
 new-requires-2 : tie.Need-new-requires-2
 new-requires-2 c κs = search needs
 
 returns-4 : tie.Need-returns-4
 returns-4 c =
-    let h = plain (c .before .before .before .before .before) in
-    found Time _ 7 0 _ (parts (c .before .before .before .before .before .before .before .before .before .args .s .now)) (c .before .before .before .before .before .before .before .if1 .left) h (no-offset-fits _ (sym h)) refl
-    (sym (c .before .before .before .before .time-fits .ensures) ∙ not-false _ (c .before .before .before .if3 .left)) _ (rw (c .before .before .new .ensures)) (c .before .time-in .ensures) (rw (c .new2 .ensures) (no-offset _ (sym h)))
+    let tested = c .before .before in
+    let t = tested .before .before in
+    let h = plain (t .before) in
+    found Time _ 7 0 _ (parts (t .before .before .before .before .before .args .s .now)) (t .before .before .before .if1 .left) h (no-offset-fits _ (sym h)) refl
+    (rw (t .time-in .ensures) at (sym (tested .before .in-range .ensures) ∙ not-false _ (tested .if3 .left))) _ (rw (c .before .new .ensures)) (t .time-in .ensures) (rw (c .new2 .ensures) (no-offset _ (sym h)))
 
 pub read-time-spec : {M : Type 1} → statement M
 read-time-spec =
@@ -60,9 +62,9 @@ read-time-spec =
     returns
     is-plain-requires
     returns-2
-    time-fits-requires
+    time-in-requires
+    in-range-requires
     returns-3
     new-requires
-    time-in-requires
     new-requires-2
     returns-4)

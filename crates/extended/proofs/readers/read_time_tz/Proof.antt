@@ -26,22 +26,26 @@ in-range-requires c κs = search needs
 returns-2 : tie.Need-returns-2
 returns-2 c = wrong-offset TimeTz _ 7 0 _ (parts (c .before .before .before .before .before .args .s .now)) (c .before .before .before .if1 .left) refl (rw (c .before .before .offset-in .ensures) at (sym (c .before .in-range .ensures) ∙ not-true _ (c .if2 .taken)))
 
-time-fits-requires : tie.Need-time-fits-requires
-time-fits-requires c κs = search needs
+time-in-requires : tie.Need-time-in-requires
+time-in-requires c κs = search needs
+
+in-range-requires-2 : tie.Need-in-range-requires-2
+in-range-requires-2 c κs = search needs
 
 returns-3 : tie.Need-returns-3
-returns-3 c = wrong-time TimeTz _ 7 0 _ (parts (c .before .before .before .before .before .before .before .args .s .now)) (c .before .before .before .before .before .if1 .left) refl (sym (c .before .time-fits .ensures) ∙ not-true _ (c .if3 .taken))
+returns-3 c = wrong-time TimeTz _ 7 0 _ (parts (c .before .before .before .before .before .before .before .before .args .s .now)) (c .before .before .before .before .before .before .if1 .left) refl (rw (c .before .before .time-in .ensures) at (sym (c .before .in-range2 .ensures) ∙ not-true _ (c .if3 .taken)))
 
 new-requires : tie.Need-new-requires
 new-requires c κs = search needs
 
-time-in-requires : tie.Need-time-in-requires
-time-in-requires c κs = search needs
-
 returns-4 : tie.Need-returns-4
-returns-4 c = found TimeTz _ 7 0 _ (parts (c .before .before .before .before .before .before .before .before .before .args .s .now)) (c .before .before .before .before .before .before .before .if1 .left) refl
-    (rw (c .before .before .before .before .before .before .offset-in .ensures) at (sym (c .before .before .before .before .before .in-range .ensures) ∙ not-false _ (c .before .before .before .before .if2 .left))) refl
-    (sym (c .before .before .before .time-fits .ensures) ∙ not-false _ (c .before .before .if3 .left)) _ (rw (c .before .new .ensures)) (c .time-in .ensures) (c .before .before .before .before .before .before .offset-in .ensures)
+returns-4 c =
+    let tested = c .before in
+    let t = tested .before .before in
+    let o = t .before .before .before in
+    found TimeTz _ 7 0 _ (parts (o .before .before .before .args .s .now)) (o .before .if1 .left) refl
+    (rw (o .offset-in .ensures) at (sym (t .before .before .in-range .ensures) ∙ not-false _ (t .before .if2 .left))) refl
+    (rw (t .time-in .ensures) at (sym (tested .before .in-range2 .ensures) ∙ not-false _ (tested .if3 .left))) _ (rw (c .new .ensures)) (t .time-in .ensures) (o .offset-in .ensures)
 
 pub read-time-tz-spec : {M : Type 1} → statement M
 read-time-tz-spec =
@@ -51,8 +55,8 @@ read-time-tz-spec =
     offset-in-requires
     in-range-requires
     returns-2
-    time-fits-requires
+    time-in-requires
+    in-range-requires-2
     returns-3
     new-requires
-    time-in-requires
     returns-4)

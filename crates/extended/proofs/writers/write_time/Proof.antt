@@ -16,7 +16,7 @@ returns : tie.Need-returns
 returns c = time-outside Time (valueFrom (c .before .before .before .before .before .args .value)) _ refl (sym (c .before .in-range .ensures) ∙ not-true _ (c .if1 .taken))
 
 returns-2 : tie.Need-returns-2
-returns-2 c = no-room Time (valueFrom (c .before .before .before .before .before .before .args .value)) 7 (seven Time refl) refl (sym (c .before .before .in-range .ensures) ∙ not-false _ (c .before .if1 .left)) refl _ (c .if2 .taken)
+returns-2 c = no-room Time (valueFrom (c .before .before .before .before .before .before .args .value)) 7 (seven Time refl) refl (sym (c .before .before .in-range .ensures) ∙ not-false _ (c .before .if1 .left)) refl (c .before .before .before .before .before .before .args .buf .now) (c .if2 .taken)
 
 header-requires : tie.Need-header-requires
 header-requires c κs = search needs

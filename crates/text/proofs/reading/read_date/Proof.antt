@@ -4,8 +4,8 @@ use denote.Ref.{now}
 use Rattle.format.specs.Values.{Date}
 use Rattle.text.proofs.Rows.{passes}
 use Rattle.text.proofs.Texts.{too-many}
-use Rattle.text.proofs.Places.{Opened, AfterDate, AfterAll, noClock, noZone, date-room, date-wrong, date-read, unzoned}
-use Rattle.text.proofs.Answering.{unsigned, no-day, stamped, no-minutes}
+use Rattle.text.proofs.Places.{Opened, AfterDate, AfterNoTime, AfterAll, noClock, noZone, date-room, date-wrong, date-read, untimed, unzoned}
+use Rattle.text.proofs.Answering.{unsigned, no-day, stamped, no-clock-fits, no-minutes}
 use borrow.Author.Needs.{needs}
 use Rattle.text.proofs.reading.read_date.Statement.{statement}
 use Rattle.text.proofs.reading.read_date.Tie as tie
@@ -13,8 +13,11 @@ use Rattle.text.proofs.reading.read_date.Tie as tie
 opened : (c : tie.Else1) → Opened Date (c .before .digits-in .result) (now (c .before .before .before .args .s))
 opened c = record { found = c .before .digits-in .ensures; few = c .if1 .left }
 
-rear : (c : tie.After-known-told) → AfterDate (opened (c .before .before .before .before)) (c .before .date2 .given .1)
-rear c = date-read (opened (c .before .before .before .before)) refl refl (c .before .date2 .given .1) (c .before .before .before .date .ensures)
+headed : (c : tie.After-known-told) → AfterDate (opened (c .before .before .before .before)) (c .before .date2 .given .1)
+headed c = date-read (opened (c .before .before .before .before)) refl (c .before .date2 .given .1) (c .before .before .before .date .ensures)
+
+rear : (c : tie.After-known-told) → AfterNoTime (headed c)
+rear c = untimed (headed c) refl
 
 said : (c : tie.After-known-told) → AfterAll (rear c) noClock noZone
 said c = unzoned (rear c) refl refl
@@ -52,7 +55,7 @@ new-requires-2 c κs = search needs
 returns-4 : tie.Need-returns-4
 returns-4 c =
     let day = c .before .before in
-    stamped (unsigned (said (day .before .before))) (passes (day .before .in-range .ensures) (day .if2 .left)) refl refl refl (c .before .new .ensures) (no-minutes (c .new2 .ensures))
+    stamped (unsigned (said (day .before .before))) (passes (day .before .in-range .ensures) (day .if2 .left)) no-clock-fits refl refl (c .before .new .ensures) (no-minutes (c .new2 .ensures))
 
 pub read-date-spec : {M : Type 1} → statement M
 read-date-spec =

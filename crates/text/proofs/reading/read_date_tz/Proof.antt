@@ -4,8 +4,8 @@ use denote.Ref.{now}
 use Rattle.format.specs.Values.{DateTz}
 use Rattle.text.proofs.Rows.{passes}
 use Rattle.text.proofs.Texts.{too-many}
-use Rattle.text.proofs.Places.{Opened, AfterDate, AfterAll, noClock, date-room, date-wrong, date-read, zone-room, zone-wrong, zone-read}
-use Rattle.text.proofs.Answering.{is-redundant, AfterSign, not-redundant, no-day, no-zone, stamped, zone-small}
+use Rattle.text.proofs.Places.{Opened, AfterDate, AfterNoTime, AfterAll, noClock, date-room, date-wrong, date-read, untimed, zone-room, zone-wrong, zone-read}
+use Rattle.text.proofs.Answering.{is-redundant, AfterSign, not-redundant, no-day, no-zone, stamped, no-clock-fits, zone-small}
 use borrow.Author.Needs.{needs}
 use Rattle.text.proofs.reading.read_date_tz.Statement.{statement}
 use Rattle.text.proofs.reading.read_date_tz.Tie as tie
@@ -13,8 +13,11 @@ use Rattle.text.proofs.reading.read_date_tz.Tie as tie
 opened : (c : tie.Else1) → Opened DateTz (c .before .digits-in .result) (now (c .before .before .before .args .s))
 opened c = record { found = c .before .digits-in .ensures; few = c .if1 .left }
 
-rear : (c : tie.After-known-told) → AfterDate (opened (c .before .before .before .before)) (c .before .date2 .given .1)
-rear c = date-read (opened (c .before .before .before .before)) refl refl (c .before .date2 .given .1) (c .before .before .before .date .ensures)
+headed : (c : tie.After-known-told) → AfterDate (opened (c .before .before .before .before)) (c .before .date2 .given .1)
+headed c = date-read (opened (c .before .before .before .before)) refl (c .before .date2 .given .1) (c .before .before .before .date .ensures)
+
+rear : (c : tie.After-known-told) → AfterNoTime (headed c)
+rear c = untimed (headed c) refl
 
 said : (c : tie.After-known-told2) → AfterAll (rear (c .before .before .before .before)) noClock (c .before .zone2 .given .0 .0)
 said c = zone-read (rear (c .before .before .before .before)) refl (c .before .zone2 .given .1) (c .before .before .before .zone .ensures .0)
@@ -80,7 +83,7 @@ returns-7 : tie.Need-returns-7
 returns-7 c =
     let zone = c .before .before in
     let day = zone .before .before in
-    stamped (plain (day .before .before)) (passes (day .before .in-range .ensures) (day .if3 .left)) refl (passes (zone .before .in-range2 .ensures) (zone .if4 .left)) refl (c .before .new .ensures) (c .offset .ensures)
+    stamped (plain (day .before .before)) (passes (day .before .in-range .ensures) (day .if3 .left)) no-clock-fits (passes (zone .before .in-range2 .ensures) (zone .if4 .left)) refl (c .before .new .ensures) (c .offset .ensures)
 
 pub read-date-tz-spec : {M : Type 1} → statement M
 read-date-tz-spec =

@@ -69,13 +69,10 @@ new-requires-2 c κs = search needs
 new-requires-3 : tie.Need-new-requires-3
 new-requires-3 c κs = search needs
 
-new-requires-4 : tie.Need-new-requires-4
-new-requires-4 c κs = search needs
-
 returns-5 : tie.Need-returns-5
 returns-5 c =
     let time = c .before .before .before in
-    stamped (unsigned (said (time .before .before))) refl (passes (time .before .in-range .ensures) (time .if2 .left)) refl (ap dayFrom (c .before .before .new2 .ensures)) (c .before .new3 .ensures) (no-minutes (c .new4 .ensures))
+    stamped (unsigned (said (time .before .before))) refl (passes (time .before .in-range .ensures) (time .if2 .left)) refl (ap dayFrom (c .before .before .new2 .ensures)) refl (no-minutes (c .new3 .ensures))
 
 pub read-time-spec : {M : Type 1} → statement M
 read-time-spec =
@@ -96,5 +93,4 @@ read-time-spec =
     returns-4
     new-requires-2
     new-requires-3
-    new-requires-4
     returns-5)

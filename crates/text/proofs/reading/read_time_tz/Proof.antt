@@ -95,9 +95,6 @@ returns-7 c = no-zone (plain (c .before .before .before .before)) (c .before .in
 new-requires-2 : tie.Need-new-requires-2
 new-requires-2 c κs = search needs
 
-new-requires-3 : tie.Need-new-requires-3
-new-requires-3 c κs = search needs
-
 offset-requires : tie.Need-offset-requires
 offset-requires c κs = zone-small _ _ (passes (c .before .before .before .in-range2 .ensures) (c .before .before .if4 .left))
 
@@ -105,7 +102,7 @@ returns-8 : tie.Need-returns-8
 returns-8 c =
     let zone = c .before .before .before in
     let time = zone .before .before in
-    stamped (plain (time .before .before)) refl (passes (time .before .in-range .ensures) (time .if3 .left)) (passes (zone .before .in-range2 .ensures) (zone .if4 .left)) (ap dayFrom (c .before .before .new2 .ensures)) (c .before .new3 .ensures) (c .offset .ensures)
+    stamped (plain (time .before .before)) refl (passes (time .before .in-range .ensures) (time .if3 .left)) (passes (zone .before .in-range2 .ensures) (zone .if4 .left)) (ap dayFrom (c .before .before .new2 .ensures)) refl (c .offset .ensures)
 
 pub read-time-tz-spec : {M : Type 1} → statement M
 read-time-tz-spec =
@@ -133,6 +130,5 @@ read-time-tz-spec =
     in-range-requires-2
     returns-7
     new-requires-2
-    new-requires-3
     offset-requires
     returns-8)

@@ -31,6 +31,9 @@ add-result c = search needs
 sign-mark-requires : tie.Need-sign-mark-requires
 sign-mark-requires c κs = search needs
 
+cast-result : tie.Need-cast-result
+cast-result c = search needs
+
 add-result-2 : tie.Need-add-result-2
 add-result-2 c = omega (arith, c .sign-mark .ensures, mark-small (toZ w32 (ofZ w32 (c .before .before .args .minutes))), c .before .offset-digits .ensures .small)
 
@@ -52,5 +55,6 @@ sign-hour-minute-spec =
     offset-digits-requires
     add-result
     sign-mark-requires
+    cast-result
     add-result-2
     returns)

@@ -1,12 +1,12 @@
 -- `Image::put_date` meets its contract: the two parts are stored one behind the other. Assumes nothing.
 use native.Mathlib.Omega.{arith}
 use borrow.Author.Needs.{needs, sfits-of}
-use Rattle.compact.proofs.Stored.{front-room, number-room, parts-stored}
+use Rattle.compact.proofs.Stored.{image-length, parts-stored}
 use Rattle.compact.proofs.put.Image.put_date.Statement.{statement}
 use Rattle.compact.proofs.put.Image.put_date.Tie as tie
 
 put-offset-requires : tie.Need-put-offset-requires
-put-offset-requires c κs = front-room _ (c .before .before .before .before .pre)
+put-offset-requires c κs = let a = c .before .before .before .before in omega (arith, a .pre, image-length (a .args .self))
 
 front-octets-requires : tie.Need-front-octets-requires
 front-octets-requires c κs = search needs
@@ -14,7 +14,7 @@ front-octets-requires c κs = search needs
 put-days-requires : tie.Need-put-days-requires
 put-days-requires c κs =
     let a = c .before .before .before .before .before .before .before .before .before in
-    number-room (a .args .self) (omega (arith, a .pre, c .before .before .before .before .put-offset .kept .0)) (c .front-octets .ensures)
+    omega (arith, a .pre, image-length (a .args .self), c .before .before .before .before .put-offset .kept .0, c .front-octets .ensures)
 
 same-length : tie.Need-same-length
 same-length c = search needs

@@ -3,6 +3,7 @@ use mathlib.Core.Path.{_≡_, sym, _∙_}
 use Prim.Native.Nat.{_/_, _<_}
 use native.Mathlib.Omega.{arith}
 use borrow.Author.Needs.{needs}
+use Rattle.format.specs.Compact.{millisPerDay}
 use Rattle.values.specs.Meaning.{kindFrom}
 use Rattle.compact.specs.Meaning.{dayTaken}
 use Rattle.compact.proofs.Flags.{units-timed, units-plain, day-small}
@@ -13,7 +14,7 @@ small : (c : tie.Start) → dayTaken (kindFrom (c .args .kind)) (c .args .self) 
 small c = day-small (kindFrom (c .args .kind)) (c .args .self .front) (c .args .self .number) (c .pre .1) (c .pre .0)
 
 with-time : (c : tie.Then1)
-    → (let n = c .before .before in n .count .result / 86400000 ≡ dayTaken (kindFrom (n .before .args .kind)) (n .before .args .self))
+    → (let n = c .before .before in n .count .result / millisPerDay ≡ dayTaken (kindFrom (n .before .args .kind)) (n .before .args .self))
 with-time c =
     let n = c .before .before in
     rw (n .count .ensures, units-timed (kindFrom (n .before .args .kind)) (sym (c .before .timed .ensures) ∙ c .if1 .taken))

@@ -2,8 +2,8 @@
 use borrow.Author.Needs.{needs}
 use native.Mathlib.Omega.{arith}
 use Rattle.compact.proofs.Seeing.{sees-alone}
-use Rattle.compact.proofs.common.datetime_alone.Statement.{statement}
-use Rattle.compact.proofs.common.datetime_alone.Tie as tie
+use Rattle.compact.proofs.frequent_lengths.datetime_alone.Statement.{statement}
+use Rattle.compact.proofs.frequent_lengths.datetime_alone.Tie as tie
 
 signed-6-requires : tie.Need-signed-6-requires
 signed-6-requires c κs = search needs

@@ -6,8 +6,8 @@ use mir.Syntax.{w32}
 use mir.Val.{toZ, ofZ}
 use mir.Facts.{toZ-ofZ}
 use Rattle.compact.proofs.Bits.{bits-zero}
-use Rattle.compact.proofs.common.behind_needed.Statement.{statement}
-use Rattle.compact.proofs.common.behind_needed.Tie as tie
+use Rattle.compact.proofs.frequent_lengths.behind_needed.Statement.{statement}
+use Rattle.compact.proofs.frequent_lengths.behind_needed.Tie as tie
 
 minutes-in-requires : tie.Need-minutes-in-requires
 minutes-in-requires c κs = search needs

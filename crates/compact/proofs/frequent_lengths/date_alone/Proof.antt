@@ -1,12 +1,12 @@
--- `time_alone` meets its contract: by the length, the number and the test of it are those of all octets. Assumes nothing.
+-- `date_alone` meets its contract: by the length, the number and the test of it are those of all octets. Assumes nothing.
 use borrow.Author.Needs.{needs}
 use native.Mathlib.Omega.{arith}
 use Rattle.compact.proofs.Seeing.{sees-alone}
-use Rattle.compact.proofs.common.time_alone.Statement.{statement}
-use Rattle.compact.proofs.common.time_alone.Tie as tie
+use Rattle.compact.proofs.frequent_lengths.date_alone.Statement.{statement}
+use Rattle.compact.proofs.frequent_lengths.date_alone.Tie as tie
 
-signed-4-requires : tie.Need-signed-4-requires
-signed-4-requires c κs = search needs
+signed-2-requires : tie.Need-signed-2-requires
+signed-2-requires c κs = search needs
 
 is-beyond-requires : tie.Need-is-beyond-requires
 is-beyond-requires c κs = search needs
@@ -16,8 +16,8 @@ alone-requires c κs = search needs
 
 returns : tie.Need-returns
 returns c =
-    let x = c .before .before .signed-4 in
-    sees-alone 4 _ (c .before .before .before .before .shared-slice-known .given) (c .before .before .before .if1 .taken) (omega arith) (x .ok) (x .ensures) (c .before .is-beyond .ensures) (c .alone .ensures) (omega arith)
+    let x = c .before .before .signed-2 in
+    sees-alone 2 _ (c .before .before .before .before .shared-slice-known .given) (c .before .before .before .if1 .taken) (omega arith) (x .ok) (x .ensures) (c .before .is-beyond .ensures) (c .alone .ensures) (omega arith)
 
 signed-3-requires : tie.Need-signed-3-requires
 signed-3-requires c κs = search needs
@@ -36,11 +36,11 @@ returns-2 c =
 returns-3 : tie.Need-returns-3
 returns-3 c = search needs
 
-pub time-alone-spec : {M : Type 1} → statement M
-time-alone-spec =
+pub date-alone-spec : {M : Type 1} → statement M
+date-alone-spec =
     tie.close
     (tie.spec
-    signed-4-requires
+    signed-2-requires
     is-beyond-requires
     alone-requires
     returns

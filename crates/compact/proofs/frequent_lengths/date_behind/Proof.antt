@@ -6,8 +6,8 @@ use Rattle.format.specs.Values.{DateTz}
 use Rattle.format.specs.Compact.{paddedTo}
 use Rattle.format.specs.CompactReading.{carriedIn}
 use Rattle.compact.proofs.Seeing.{both-last, sees-behind}
-use Rattle.compact.proofs.common.date_behind.Statement.{statement}
-use Rattle.compact.proofs.common.date_behind.Tie as tie
+use Rattle.compact.proofs.frequent_lengths.date_behind.Statement.{statement}
+use Rattle.compact.proofs.frequent_lengths.date_behind.Tie as tie
 
 signed-2-requires : tie.Need-signed-2-requires
 signed-2-requires c κs = search needs

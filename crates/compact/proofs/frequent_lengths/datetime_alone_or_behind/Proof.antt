@@ -1,20 +1,23 @@
 -- `datetime_alone_or_behind` meets its contract: by the length, the number and the test of it are those of the octets behind the offset. Assumes nothing.
 use borrow.Author.Needs.{needs}
-use mathlib.Core.Path.{refl}
+use mathlib.Core.Path.{refl, sym, _∙_}
 use native.Mathlib.Omega.{arith}
 use Rattle.format.specs.Values.{DatetimeTz}
 use Rattle.format.specs.Compact.{paddedTo}
 use Rattle.format.specs.CompactReading.{longestPlain, carriedIn}
-use Rattle.compact.proofs.Seeing.{sees-behind, alone}
-use Rattle.compact.proofs.common.datetime_alone_or_behind.Statement.{statement}
-use Rattle.compact.proofs.common.datetime_alone_or_behind.Tie as tie
+use Rattle.format.proofs.Cases.{not-true}
+use Rattle.compact.proofs.Seeing.{sees-behind}
+use Rattle.compact.proofs.frequent_lengths.datetime_alone_or_behind.Statement.{statement}
+use Rattle.compact.proofs.frequent_lengths.datetime_alone_or_behind.Tie as tie
+
+carried-in-requires : tie.Need-carried-in-requires
+carried-in-requires c κs = search needs
 
 datetime-alone-requires : tie.Need-datetime-alone-requires
 datetime-alone-requires c κs = search needs
 
 returns : tie.Need-returns
-unfolding longestPlain
-returns c = c .datetime-alone .ensures DatetimeTz (alone DatetimeTz _ refl (c .before .if1 .taken)) (omega arith)
+returns c = c .datetime-alone .ensures DatetimeTz (sym (c .before .before .carried-in .ensures) ∙ not-true _ (c .before .if1 .taken)) (omega arith)
 
 signed-6-requires : tie.Need-signed-6-requires
 signed-6-requires c κs = search needs
@@ -29,7 +32,7 @@ returns-2 : tie.Need-returns-2
 unfolding carriedIn longestPlain paddedTo
 returns-2 c =
     let x = c .before .before .signed-6 in
-    sees-behind 6 _ (c .before .before .before .before .before .shared-slice-known .given) DatetimeTz (c .before .before .before .if2 .taken) refl (omega arith) (omega arith) (x .ok) (x .ensures) (c .before .is-beyond .ensures) (c .behind-needed .ensures)
+    sees-behind 6 _ (c .before .before .before .before .before .before .shared-slice-known .given) DatetimeTz (c .before .before .before .if2 .taken) refl (omega arith) (omega arith) (x .ok) (x .ensures) (c .before .is-beyond .ensures) (c .behind-needed .ensures)
 
 signed-5-requires : tie.Need-signed-5-requires
 signed-5-requires c κs = search needs
@@ -41,7 +44,7 @@ returns-3 : tie.Need-returns-3
 unfolding carriedIn longestPlain paddedTo
 returns-3 c =
     let x = c .before .signed-5 in
-    sees-behind 5 _ (c .before .before .before .before .before .shared-slice-known .given) DatetimeTz (c .before .before .if3 .taken) refl (omega arith) (omega arith) (x .ok) (x .ensures) refl (c .behind-needed2 .ensures)
+    sees-behind 5 _ (c .before .before .before .before .before .before .shared-slice-known .given) DatetimeTz (c .before .before .if3 .taken) refl (omega arith) (omega arith) (x .ok) (x .ensures) refl (c .behind-needed2 .ensures)
 
 signed-7-requires : tie.Need-signed-7-requires
 signed-7-requires c κs = search needs
@@ -56,7 +59,7 @@ returns-4 : tie.Need-returns-4
 unfolding carriedIn longestPlain paddedTo
 returns-4 c =
     let x = c .before .before .signed-7 in
-    sees-behind 7 _ (c .before .before .before .before .before .before .before .shared-slice-known .given) DatetimeTz (c .before .before .before .if4 .taken) refl (omega arith) (omega arith) (x .ok) (x .ensures) (c .before .is-beyond2 .ensures) (c .behind-needed3 .ensures)
+    sees-behind 7 _ (c .before .before .before .before .before .before .before .before .shared-slice-known .given) DatetimeTz (c .before .before .before .if4 .taken) refl (omega arith) (omega arith) (x .ok) (x .ensures) (c .before .is-beyond2 .ensures) (c .behind-needed3 .ensures)
 
 returns-5 : tie.Need-returns-5
 returns-5 c = search needs
@@ -65,6 +68,7 @@ pub datetime-alone-or-behind-spec : {M : Type 1} → statement M
 datetime-alone-or-behind-spec =
     tie.close
     (tie.spec
+    carried-in-requires
     datetime-alone-requires
     returns
     signed-6-requires

@@ -10,8 +10,10 @@ ghost use Rattle.format.specs.Words.{both};
 ghost use Rattle.format.specs.Values.{DateTz, TimeTz, DatetimeTz};
 ghost use Rattle.format.specs.Octets.{signedOf};
 ghost use Rattle.compact.specs.Meaning.{Sees, SeesAlone};
+use crate::lengths;
 use crate::reading;
 use crate::reading::Taken;
+use values::Kind;
 
 pub enum Seen {
     Taken(Taken),
@@ -132,7 +134,7 @@ pub fn date_behind(s: &[u8]) -> Seen
 pub fn time_alone_or_behind(s: &[u8]) -> Seen
     ensures { λ r. ⌜ Sees TimeTz (now (s .entry)) r ⌝ }
 {
-    if s.len() <= 4 {
+    if !lengths::carried_in(Kind::TimeTz, s.len()) {
         return time_alone(s);
     }
     if s.len() == 6 {
@@ -148,7 +150,7 @@ pub fn time_alone_or_behind(s: &[u8]) -> Seen
 pub fn datetime_alone_or_behind(s: &[u8]) -> Seen
     ensures { λ r. ⌜ Sees DatetimeTz (now (s .entry)) r ⌝ }
 {
-    if s.len() <= 6 {
+    if !lengths::carried_in(Kind::DatetimeTz, s.len()) {
         return datetime_alone(s);
     }
     if s.len() == 8 {
