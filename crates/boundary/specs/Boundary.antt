@@ -2,6 +2,7 @@
 --
 --   kindNumbered n      the kind with the number n: 0 Date, 1 DateTz, 2 Time, 3 TimeTz, 4 Datetime, 5 DatetimeTz; no such kind is refusal 2
 --   known r             what `kind_of` and `kind_in` answer: a kind, or refusal 2
+--   valueOf d m z       the value of a date, a time and an offset, whatever the kind
 --   writingAs o t v     what writing comes to at a kind that was looked up: no such kind is refused after 1, digits above 6
 --   writing n t v       what writing comes to at the kind with the number n
 --   readingAs o s       what reading comes to at a kind that was looked up: no such kind is refused before the octets are looked at
@@ -14,23 +15,24 @@
 --   partsAfter o lent   the eight numbers after a call: the answer's, or as lent after a refusal
 --   WritesNumbered      the promise of `stamp_write`, by the kind's number, settings and value: the number answered, *count and every octet
 --   Hands o lent r left what is handed over of an outcome: the number answered and all eight parts
---   timeFits p          what was read has a time in range
 --   ReadsNumbered       the promise of `stamp_read`, by the number and the octets: the number answered and all eight parts
-use Prim.Native.Nat.{ℕ, _≤_}
+use Prim.Native.Nat.{ℕ}
 use mathlib.Core.Path.{_≡_}
 use mathlib.Core.List.{List, [], _∷_}
 use lib.IntN.{ℤ, pos}
 use lib.Dec.{eqb}
 use Rattle.format.specs.Words.{pick, Outcome, accepted, refused, unless}
-use Rattle.format.specs.Values.{Kind, Date, DateTz, Time, TimeTz, Datetime, DatetimeTz, Value, endOfDay, Settings, digitsInRange, Form, text, compact, extended, Answer}
+use Rattle.format.specs.Values.{Kind, Date, DateTz, Time, TimeTz, Datetime, DatetimeTz, Value, Settings, digitsInRange, Form, text, compact, extended, Answer}
 use Rattle.format.specs.Promises.{numberOf}
 use Rattle.format.specs.Writing.{encode}
 use Rattle.format.specs.Reading.{read}
 use Rattle.format.specs.EitherOr.{DateOrTz, TimeOrTz, DatetimeOrTz, readEither}
+use Rattle.calendar.specs.declared.Date.{Date as GivenDate}
+use Rattle.calendar.specs.Meaning.{dayFrom}
+use Rattle.values.specs.declared.parts.Time.{Time as GivenTime}
+use Rattle.values.specs.declared.parts.Offset.{Offset}
 use Rattle.values.specs.Meaning.{kindFrom}
 use Rattle.values.specs.Promise.{Left}
-use Rattle.values.specs.declared.answers.Parsed.{Parsed}
-use Rattle.values.specs.declared.answers.Parsed.the-variants as P
 use Rattle.boundary.specs.declared.Known.{Known}
 use Rattle.boundary.specs.declared.Known.the-variants as K
 
@@ -49,6 +51,9 @@ known (K.Kind k) = accepted (kindFrom k)
 known K.None = refused 2
 
 -- ---- writing
+
+abbrev pub valueOf : GivenDate → GivenTime → Offset → Value
+valueOf date time offset = record { date = dayFrom date; micros = time .micros; offset = offset .minutes }
 
 abbrev pub writingAs : Outcome Kind → Settings → Value → Outcome (List ℕ)
 writingAs (accepted k) t v = encode k t v
@@ -109,8 +114,3 @@ pub record Hands (o : Outcome Answer) (lent : List ℤ) (r : ℕ) (left : List �
 
 abbrev pub ReadsNumbered : ℕ → List ℕ → List ℤ → ℕ → List ℤ → Type 0
 ReadsNumbered n s lent r left = Hands (readingOf n s) lent r left
-
--- what was read has a time in range
-abbrev pub timeFits : Parsed → Type 0
-timeFits (P.Stamp f v) = v .time .micros ≤ endOfDay
-timeFits (P.Refused r) = 0 ≤ 0

@@ -35,7 +35,6 @@ settings-answers = (
 
 pub writers-answers : WritersAnswers
 writers-answers = (
-  stamp.one-write,
   stamp.one-write-date,
   stamp.one-write-date-tz,
   stamp.one-write-time,
@@ -46,7 +45,6 @@ writers-answers = (
 
 pub readers-answers : ReadersAnswers
 readers-answers = (
-  stamp.one-read,
   stamp.one-read-date,
   stamp.one-read-date-tz,
   stamp.one-read-time,

@@ -1,6 +1,6 @@
 -- One answer: no two different answers meet the promise of a public call, whatever it is given. (01, What the promises have to say.)
 -- Each promise has the name that the call's contract cites (`specs/Calls.antt` of `calendar`, `values` and `stamp`, `specs/Boundary.antt` of `boundary`); `OneAnswer P` says that no two
--- different answers meet P, and `OneWriting P` the same of a writer's answer and every octet of the buffer that it leaves.
+-- different answers meet P, and `OneWriting P` the same of a writer's answer and every octet of the buffer that it leaves; `OneWritingForC`, `OneReadingForC` of the two C functions.
 use Prim.Native.Nat.{ℕ}
 use mathlib.Core.Path.{_≡_}
 use mathlib.Core.Bool.{Bool}
@@ -62,8 +62,7 @@ SettingsAnswers =
 
 abbrev pub WritersAnswers : Type 0
 WritersAnswers =
-    ((k : format.Kind) (t : Settings) (v : Value) → OneWriting (stamp.WritesKind k t v))
-    × ((t : Settings) (v : Date) → OneWriting (stamp.WritesDate t v))
+    ((t : Settings) (v : Date) → OneWriting (stamp.WritesDate t v))
     × ((t : Settings) (v : DateTz) → OneWriting (stamp.WritesDateTz t v))
     × ((t : Settings) (v : Time) → OneWriting (stamp.WritesTime t v))
     × ((t : Settings) (v : TimeTz) → OneWriting (stamp.WritesTimeTz t v))
@@ -72,8 +71,7 @@ WritersAnswers =
 
 abbrev pub ReadersAnswers : Type 0
 ReadersAnswers =
-    ((k : format.Kind) (s : List ℕ) → OneAnswer (stamp.ParsesKind k s))
-    × ((s : List ℕ) → OneAnswer (stamp.ReadsDate s))
+    ((s : List ℕ) → OneAnswer (stamp.ReadsDate s))
     × ((s : List ℕ) → OneAnswer (stamp.ReadsDateTz s))
     × ((s : List ℕ) → OneAnswer (stamp.ReadsTime s))
     × ((s : List ℕ) → OneAnswer (stamp.ReadsTimeTz s))
@@ -87,10 +85,15 @@ ReadersAnswers =
     × ((s : List ℕ) → OneAnswer (stamp.ChoosesDatetime s))
 
 -- the C functions: the number, the count and every octet; the number and all eight parts
+abbrev pub OneWritingForC : (List ℕ → ℕ → ℕ → List ℕ → Type 0) → Type 0
+OneWritingForC P =
+    (lent : List ℕ) (r r′ count count′ : ℕ) (left left′ : List ℕ) → P lent r count left → P lent r′ count′ left′
+    → (r ≡ r′) × (count ≡ count′) × (left ≡ left′)
+
+abbrev pub OneReadingForC : (List ℤ → ℕ → List ℤ → Type 0) → Type 0
+OneReadingForC P = (lent : List ℤ) (r r′ : ℕ) (left left′ : List ℤ) → P lent r left → P lent r′ left′ → (r ≡ r′) × (left ≡ left′)
+
 abbrev pub BoundaryAnswers : Type 0
 BoundaryAnswers =
-    ((n : ℕ) (t : format.Settings) (v : format.Value) (lent : List ℕ) (r r′ count count′ : ℕ) (left left′ : List ℕ)
-    → boundary.WritesNumbered n t v lent r count left → boundary.WritesNumbered n t v lent r′ count′ left′
-    → (r ≡ r′) × (count ≡ count′) × (left ≡ left′))
-    × ((n : ℕ) (s : List ℕ) (lent : List ℤ) (r r′ : ℕ) (left left′ : List ℤ)
-    → boundary.ReadsNumbered n s lent r left → boundary.ReadsNumbered n s lent r′ left′ → (r ≡ r′) × (left ≡ left′))
+    ((n : ℕ) (t : format.Settings) (v : format.Value) → OneWritingForC (boundary.WritesNumbered n t v))
+    × ((n : ℕ) (s : List ℕ) → OneReadingForC (boundary.ReadsNumbered n s))

@@ -1,4 +1,4 @@
--- What is read is already cut to what its form keeps, and has no parts but the kind's. Assumes nothing.
+-- What is read is already cut to what its form keeps, and has no parts but the kind's; and a writer looks at no others. Assumes nothing.
 use mathlib.Core.Path.{_≡_, refl, sym, _∙_, ap}
 use mathlib.Core.Bool.{Bool, true, false}
 use mathlib.Core.List.{List}
@@ -6,13 +6,17 @@ use Prim.Native.Nat.{ℕ, _+_}
 use lib.IntN.{ℤ, pos}
 use lib.Dec.{eqb}
 use Rattle.format.specs.Words.{pick, both, ifAny, accepted}
-use Rattle.format.specs.Octets.{Octets}
+use Rattle.format.specs.Octets.{Octets, signedOctets}
 use Rattle.format.specs.Calendar.{Day, noDate, dayNumber, dayOf}
-use Rattle.format.specs.Values.{Kind, dated, timed, zoned, Value, endOfDay, Form, text, compact, extended, Answer}
-use Rattle.format.specs.Text.{fractionUnit}
+use Rattle.format.specs.Values.{Kind, Date, DateTz, Time, TimeTz, Datetime, DatetimeTz, dated, timed, zoned, Value, endOfDay, inRange, Settings, Form, text, compact, extended, Answer}
+use Rattle.format.specs.Choice.{formFor}
+use Rattle.format.specs.Text.{fractionUnit, textNumbers, textImage}
+use Rattle.format.specs.Compact.{count, number, carried, hasCompact, compactImage}
+use Rattle.format.specs.Extended.{twelve, extendedImage}
+use Rattle.format.specs.Writing.{imageIn, hasForm, encodeIn, encode}
 use Rattle.format.specs.Reading.{read}
 use Rattle.format.specs.Keeping.{own, owned, down, cut}
-use Rattle.format.proofs.Cases.{same}
+use Rattle.format.proofs.Cases.{same, never}
 use Rattle.format.proofs.Round.{answered, image-reads, was-read}
 
 own-own : (k : Kind) (d : Day) (m : ℕ) (o : ℤ) → owned k (own k d m o) ≡ own k d m o
@@ -56,3 +60,44 @@ pub read-owned : (k : Kind) (xs : List ℕ) (a : Answer) → Octets xs → read 
 read-owned k xs a o e =
     let q = read-kept k xs a o e in
     ap (owned k) q ∙ cut-owned k (a .form) (a .value) ∙ sym q
+
+-- ---- writing
+
+-- A kind without a time is written as text or compact, by the binary setting alone; the others in any form.
+text-or-compact : (k : Kind) → timed k ≡ false → (b : Bool) (v : Value)
+    → encodeIn k (pick b compact (text 0)) (owned k v) ≡ encodeIn k (pick b compact (text 0)) v
+unfolding own inRange imageIn hasForm textNumbers textImage count number carried hasCompact compactImage signedOctets
+text-or-compact Date u true v = refl
+text-or-compact Date u false v = refl
+text-or-compact DateTz u true v = refl
+text-or-compact DateTz u false v = refl
+text-or-compact Time u b v = never (sym u)
+text-or-compact TimeTz u b v = never (sym u)
+text-or-compact Datetime u b v = never (sym u)
+text-or-compact DatetimeTz u b v = never (sym u)
+
+any-form : (k : Kind) → timed k ≡ true → (f : Form) (v : Value) → encodeIn k f (owned k v) ≡ encodeIn k f v
+unfolding own inRange imageIn hasForm textNumbers textImage count number carried hasCompact compactImage signedOctets twelve extendedImage
+any-form Date u f v = never u
+any-form DateTz u f v = never u
+any-form Time u (text d) v = refl
+any-form Time u compact v = refl
+any-form Time u extended v = refl
+any-form TimeTz u (text d) v = refl
+any-form TimeTz u compact v = refl
+any-form TimeTz u extended v = refl
+any-form Datetime u (text d) v = refl
+any-form Datetime u compact v = refl
+any-form Datetime u extended v = refl
+any-form DatetimeTz u (text d) v = refl
+any-form DatetimeTz u compact v = refl
+any-form DatetimeTz u extended v = refl
+
+pub encode-owned : (k : Kind) (t : Settings) (v : Value) → encode k t (owned k v) ≡ encode k t v
+unfolding encode formFor own
+encode-owned Date t v = rw (text-or-compact Date refl (t .binary) v)
+encode-owned DateTz t v = rw (text-or-compact DateTz refl (t .binary) v)
+encode-owned Time t v = rw (any-form Time refl (formFor Time t v) v)
+encode-owned TimeTz t v = rw (any-form TimeTz refl (formFor TimeTz t v) v)
+encode-owned Datetime t v = rw (any-form Datetime refl (formFor Datetime t v) v)
+encode-owned DatetimeTz t v = rw (any-form DatetimeTz refl (formFor DatetimeTz t v) v)

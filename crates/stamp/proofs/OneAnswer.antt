@@ -10,20 +10,14 @@ use Rattle.values.specs.declared.kinds.DateTz.{DateTz}
 use Rattle.values.specs.declared.kinds.TimeTz.{TimeTz}
 use Rattle.values.specs.declared.kinds.Datetime.{Datetime}
 use Rattle.values.specs.declared.kinds.DatetimeTz.{DatetimeTz}
-use Rattle.format.specs.Values.{Kind}
-use Rattle.values.specs.declared.kinds.Value.{Value}
 use Rattle.values.specs.declared.settings.Settings.{Settings}
 use Rattle.values.specs.declared.answers.Written.{Written}
-use Rattle.values.proofs.OneAnswer.{one-writing, one-reading, one-parsing, one-kind}
-use Rattle.stamp.specs.Calls.{WritesKind, WritesDate, WritesDateTz, WritesTime, WritesTimeTz, WritesDatetime, WritesDatetimeTz}
-use Rattle.stamp.specs.Calls.{ParsesKind, ReadsDate, ReadsDateTz, ReadsTime, ReadsTimeTz, ReadsDatetime, ReadsDatetimeTz}
+use Rattle.values.proofs.OneAnswer.{one-writing, one-reading, one-kind}
+use Rattle.stamp.specs.Calls.{WritesDate, WritesDateTz, WritesTime, WritesTimeTz, WritesDatetime, WritesDatetimeTz}
+use Rattle.stamp.specs.Calls.{ReadsDate, ReadsDateTz, ReadsTime, ReadsTimeTz, ReadsDatetime, ReadsDatetimeTz}
 use Rattle.stamp.specs.Calls.{ReadsDateOrDateTz, ReadsTimeOrTimeTz, ReadsDatetimeOrDatetimeTz, ChoosesDate, ChoosesTime, ChoosesDatetime}
 
 -- ---- writers
-
-pub one-write : (k : Kind) (t : Settings) (v : Value) (lent : List ℕ) (r r′ : Written) (left left′ : List ℕ)
-    → WritesKind k t v lent r left → WritesKind k t v lent r′ left′ → (r ≡ r′) × (left ≡ left′)
-one-write k t v = one-writing _
 
 pub one-write-date : (t : Settings) (v : Date) (lent : List ℕ) (r r′ : Written) (left left′ : List ℕ)
     → WritesDate t v lent r left → WritesDate t v lent r′ left′ → (r ≡ r′) × (left ≡ left′)
@@ -50,9 +44,6 @@ pub one-write-datetime-tz : (t : Settings) (v : DatetimeTz) (lent : List ℕ) (r
 one-write-datetime-tz t v = one-writing _
 
 -- ---- readers
-
-pub one-read : (k : Kind) (s : List ℕ) → OneAnswer (ParsesKind k s)
-one-read k s = one-parsing _ _
 
 pub one-read-date : (s : List ℕ) → OneAnswer (ReadsDate s)
 one-read-date s = one-reading _

@@ -1,11 +1,9 @@
 -- What each public call promises, whatever it is given: the legend. A contract cites the name, and so does the theorem of one answer
 -- (proofs/OneAnswer). Settings t, value v, octets s; `lent` is the buffer as it was lent, `left` as it was left, r the answer.
 --
---   WritesKind k t v lent r left      `write`, and at its kind `encode_date` and the other five: what `encode` says of kind, settings and value, and every
---                                     octet of the buffer
---   WritesDate t v lent r left, ..    `write_date` and the other five: the same of their kind
---   ParsesKind k s r                  `read`, and at its kind `parse_date` and the other five: what `read` says of the kind and the octets
---   ReadsDate s r, ..                 `read_date` and the other five: the same of their kind
+--   WritesDate t v lent r left, ..    `write_date` and the other five: what `encode` says of their kind, the settings and the value, and every octet of
+--                                     the buffer
+--   ReadsDate s r, ..                 `read_date` and the other five: what `read` says of their kind and the octets
 --   ReadsDateOrDateTz s r, ..         `read_date_or_date_tz` and the other two: what `readEither` says of the two kinds and the octets
 --   ChoosesDate s r, ..               `date_kind` and the other two: the kind that the either-or reader chooses
 use Prim.Native.Nat.{ℕ}
@@ -22,19 +20,13 @@ use Rattle.values.specs.declared.kinds.TimeTz.{TimeTz}
 use Rattle.values.specs.declared.kinds.Datetime.{Datetime}
 use Rattle.values.specs.declared.kinds.DatetimeTz.{DatetimeTz}
 use Rattle.values.specs.declared.kinds.Kind.{Kind}
-use Rattle.values.specs.declared.kinds.Value.{Value}
 use Rattle.values.specs.declared.settings.Settings.{Settings}
 use Rattle.values.specs.declared.answers.Written.{Written}
-use Rattle.values.specs.declared.answers.Parsed.{Parsed}
 use Rattle.values.specs.declared.answers.Reading.{Reading}
-use Rattle.values.specs.Meaning.{settingsFrom, kindFrom, valueFrom, dateValue, dateTzValue, timeValue, timeTzValue, datetimeValue, datetimeTzValue}
-use Rattle.values.specs.Promise.{Writes, Reads, Parses}
+use Rattle.values.specs.Meaning.{settingsFrom, kindFrom, dateValue, dateTzValue, timeValue, timeTzValue, datetimeValue, datetimeTzValue}
+use Rattle.values.specs.Promise.{Writes, Reads}
 
 -- ---- writers
-
--- a value of the kind: the parts that the kind lacks are not looked at
-abbrev pub WritesKind : format.Kind → Settings → Value → List ℕ → Written → List ℕ → Type 0
-WritesKind k t v lent r left = Writes (encode k (settingsFrom t) (valueFrom v)) lent r left
 
 -- a date
 abbrev pub WritesDate : Settings → Date → List ℕ → Written → List ℕ → Type 0
@@ -61,10 +53,6 @@ abbrev pub WritesDatetimeTz : Settings → DatetimeTz → List ℕ → Written �
 WritesDatetimeTz t v lent r left = Writes (encode format.DatetimeTz (settingsFrom t) (datetimeTzValue v)) lent r left
 
 -- ---- readers
-
--- octets of the kind: all parts, of which those that the kind lacks are 0
-abbrev pub ParsesKind : format.Kind → List ℕ → Parsed → Type 0
-ParsesKind k s r = Parses k (read k s) r
 
 -- a date
 abbrev pub ReadsDate : List ℕ → Reading → Type 0

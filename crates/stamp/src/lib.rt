@@ -1,11 +1,9 @@
-// Stamps written and read: a writer and a reader for each of the six kinds, three readers that find out the kind, and a writer and a reader
-// that are told it. Each takes any value, settings, buffer and octets, and answers.
-mod decoding;
+// Stamps written and read: a writer and a reader for each of the six kinds, three readers that find out the kind, and the three choices of a kind.
+// Each takes any value, settings, buffer and octets, and answers.
 mod either;
 mod readers;
 mod reading;
 mod writers;
-mod writing;
 
 pub use either::date_kind;
 pub use either::datetime_kind;
@@ -19,23 +17,9 @@ pub use readers::read_datetime_tz;
 pub use readers::read_time;
 pub use readers::read_time_or_time_tz;
 pub use readers::read_time_tz;
-pub use reading::parse_date;
-pub use reading::parse_date_tz;
-pub use reading::parse_datetime;
-pub use reading::parse_datetime_tz;
-pub use reading::parse_time;
-pub use reading::parse_time_tz;
-pub use reading::read;
 pub use writers::write_date;
 pub use writers::write_date_tz;
 pub use writers::write_datetime;
 pub use writers::write_datetime_tz;
 pub use writers::write_time;
 pub use writers::write_time_tz;
-pub use writing::encode_date;
-pub use writing::encode_date_tz;
-pub use writing::encode_datetime;
-pub use writing::encode_datetime_tz;
-pub use writing::encode_time;
-pub use writing::encode_time_tz;
-pub use writing::write;

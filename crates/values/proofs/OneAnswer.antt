@@ -24,13 +24,11 @@ use Rattle.values.specs.declared.answers.Written.{Written}
 use Rattle.values.specs.declared.answers.Written.the-variants as W
 use Rattle.values.specs.declared.answers.Decoded.{Decoded}
 use Rattle.values.specs.declared.answers.Decoded.the-variants as D
-use Rattle.values.specs.declared.answers.Parsed.{Parsed}
-use Rattle.values.specs.declared.answers.Parsed.the-variants as P
 use Rattle.values.specs.declared.answers.Reading.{Reading}
 use Rattle.values.specs.declared.answers.Reading.the-variants as G
 use Rattle.values.specs.Meaning.{refusalNumber, formFrom, settingsFrom, kindFrom}
-use Rattle.values.specs.Answers.{writtenNumber, writtenCount, decoded, reading, parsed}
-use Rattle.values.specs.Promise.{Left, Writes, Reads, Parses}
+use Rattle.values.specs.Answers.{writtenNumber, writtenCount, decoded, reading}
+use Rattle.values.specs.Promise.{Left, Writes, Reads}
 use Rattle.values.specs.Calls.{TimeNew, TimeEndOfDay, TimeIsEndOfDay, TimeInRange, OffsetNew, OffsetInRange}
 use Rattle.values.specs.Calls.{KindDated, KindTimed, KindZoned, ValueRestInRange, ValueInRange, RefusalNumber}
 use Rattle.values.specs.Calls.{SettingsNew, SettingsDefault, SettingsForForm, SettingsForm, SettingsInRange}
@@ -133,20 +131,6 @@ reading-back (G.Stamp (D.Datetime a)) = rw (form-back (a .form))
 reading-back (G.Stamp (D.DatetimeTz a)) = rw (form-back (a .form))
 reading-back (G.Refused r) = rw (refusal-back r)
 
-parsedOf : Outcome format.Answer → Parsed
-parsedOf (accepted a) =
-    P.Stamp (formOf (a .form)) (record {
-      date = record { year = a .value .date .year; month = a .value .date .month; day = a .value .date .day };
-      time = record { micros = a .value .micros };
-      offset = record { minutes = a .value .offset };
-    })
-parsedOf (refused n) = P.Refused (refusalOf n)
-
-parsed-back : (k : format.Kind) (r : Parsed) → parsedOf (parsed k r) ≡ r
-unfolding parsedOf
-parsed-back k (P.Stamp f v) = rw (form-back f)
-parsed-back k (P.Refused r) = rw (refusal-back r)
-
 -- ---- writers and readers, of all kinds
 
 -- number, count and buffer are settled
@@ -167,9 +151,6 @@ one-reading = meaning-one reading readingOf reading-back
 -- a kind that is chosen
 pub one-kind : (k : format.Kind) → OneAnswer (λ (r : Kind). kindFrom r ≡ k)
 one-kind = meaning-one kindFrom kindOf kind-back
-
-pub one-parsing : (k : format.Kind) (o : Outcome format.Answer) → OneAnswer (Parses k o)
-one-parsing k = meaning-one (parsed k) parsedOf (parsed-back k)
 
 -- ---- each public call, at the promise that its contract cites
 

@@ -4,7 +4,7 @@
 --   writtenCount r    its count of octets: 0 after a refusal
 --   decoded d         a decoded stamp: kind, form with its digits, value
 --   reading r         what a reader answered: the stamp, or the refusal's number and nothing else
---   parsed k r        the same of a reader that is told the kind
+--   parsed k r        the same of a form's reader, of the kind k
 use Prim.Native.Nat.{ℕ}
 use Rattle.format.specs.Words.{Outcome, accepted, refused}
 use Rattle.format.specs.Values.{Answer}

@@ -4,7 +4,7 @@
 --                           `lent` the buffer as it was lent, `left` as it was left
 --   Writes o lent r left    the promise of a writer that answers r
 --   Reads o r               the promise of a reader that answers r: what reading comes to (`read`, `readEither`), and nothing else
---   Parses k o r            the same of a reader that is told the kind
+--   Parses k o r            the same of a form's reader, of the kind k
 use Prim.Native.Nat.{ℕ}
 use mathlib.Core.Path.{_≡_}
 use mathlib.Core.List.{List}
@@ -31,6 +31,6 @@ Writes o lent r left = Left o lent (writtenNumber r) (writtenCount r) left
 abbrev pub Reads : Outcome Answer → Reading → Type 0
 Reads o r = reading r ≡ o
 
--- the same of a reader that is told the kind
+-- the same of a form's reader
 abbrev pub Parses : format.Kind → Outcome Answer → Parsed → Type 0
 Parses k o r = parsed k r ≡ o

@@ -62,7 +62,7 @@ pub enum Reading {
     Refused(Refusal),
 }
 
-// The same whatever the kind: all parts, of which those that the kind lacks are 0.
+// What a form's reader hands to `stamp`, whatever the kind: all parts, of which those that the kind lacks are 0. Between our own crates.
 pub enum Parsed {
     Stamp(Form, Value),
     Refused(Refusal),

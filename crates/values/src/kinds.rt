@@ -81,7 +81,7 @@ impl Kind {
     }
 }
 
-// The parts of a value of any kind: those that the kind lacks are not looked at.
+// The parts of a value of any kind, as `stamp` hands them to a form's writer: those that the kind lacks are not looked at. Between our own crates.
 pub struct Value {
     pub date: Date,
     pub time: Time,

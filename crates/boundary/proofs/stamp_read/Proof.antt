@@ -22,13 +22,13 @@ returns c =
     let k = c .before .before .before in
     rw (c .number .ensures) (keeps _ _ _ (refused 2) (rw (c .before .enum-told .given .1) at (k .kind-in .ensures)))
 
-read-known-requires : tie.Need-read-known-requires
-read-known-requires c κs = search needs
+hand-known-requires : tie.Need-hand-known-requires
+hand-known-requires c κs = search needs
 
 returns-2 : tie.Need-returns-2
 returns-2 c =
     let k = c .before .before .before in
-    rw (← (rw (k .found .given .1) at (k .before .before .kind-in .ensures))) (c .read-known .ensures)
+    rw (← (rw (k .found .given .1) at (k .before .before .kind-in .ensures))) (c .hand-known .ensures)
 
 pub stamp-read-spec : {M : Type 1} → statement M
 stamp-read-spec =
@@ -39,5 +39,5 @@ stamp-read-spec =
     enum-told
     number-requires
     returns
-    read-known-requires
+    hand-known-requires
     returns-2)

@@ -1,4 +1,4 @@
--- `write_numbered` meets its contract: no such kind, after the digits; or what the writer of the kind leaves. Assumes nothing.
+-- `write_numbered` meets its contract: no such kind, after the digits; or what the writer of that kind leaves. Assumes nothing.
 use mathlib.Core.Path.{sym, _∙_, ap}
 use Rattle.format.specs.Words.{accepted, refused}
 use Rattle.format.proofs.Cases.{not-true, not-false}
@@ -31,8 +31,8 @@ returns-2 c =
     let k = c .before .before in
     rw (writing-at _ _ _ (refused 2) (sym (ap known (k .enum-told .given .1)) ∙ k .before .before .kind-of .ensures), sym (c .before .in-range .ensures) ∙ not-false _ (c .if1 .left)) (refuses 2 _)
 
-write-requires : tie.Need-write-requires
-write-requires c κs = search needs
+write-known-requires : tie.Need-write-known-requires
+write-known-requires c κs = search needs
 
 same-length : tie.Need-same-length
 same-length c = search needs
@@ -41,7 +41,7 @@ returns-3 : tie.Need-returns-3
 returns-3 c =
     let w = c .before .before in
     let k = w .before .before .before in
-    rw (writing-at _ _ _ (accepted _) (sym (ap known (k .kind .given .1)) ∙ k .before .before .kind-of .ensures)) (w .write .ensures)
+    rw (writing-at _ _ _ (accepted _) (sym (ap known (k .kind .given .1)) ∙ k .before .before .kind-of .ensures)) (w .write-known .ensures)
 
 pub write-numbered-spec : {M : Type 1} → statement M
 write-numbered-spec =
@@ -53,6 +53,6 @@ write-numbered-spec =
     in-range-requires
     returns
     returns-2
-    write-requires
+    write-known-requires
     same-length
     returns-3)

@@ -6,7 +6,7 @@ use Rattle.stamp.proofs.either.date_kind.Tie as tie
 
 returns : tie.Need-returns
 unfolding kindIn
-returns c = rw (le-leb _ _ (c .if1 .taken))
+returns c = rw (le-leb _ 3 (c .if1 .taken))
 
 returns-2 : tie.Need-returns-2
 unfolding kindIn

@@ -33,7 +33,7 @@ returns-5 : tie.Need-returns-5
 unfolding kindIn firstBits
 returns-5 c =
     let e = c .before .before .before .before in
-    rw (lt-leb _ _ (e .before .if1 .left), lt-leb _ _ (e .if2 .left), ne-eqb _ _ (c .before .before .if3 .left), ne-eqb _ _ (c .before .if4 .left), le-leb _ _ (c .if5 .taken))
+    rw (lt-leb _ _ (e .before .if1 .left), lt-leb _ _ (e .if2 .left), ne-eqb _ _ (c .before .before .if3 .left), ne-eqb _ _ (c .before .if4 .left), le-leb _ 26 (c .if5 .taken))
 
 returns-6 : tie.Need-returns-6
 unfolding kindIn firstBits
