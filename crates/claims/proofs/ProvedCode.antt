@@ -8,7 +8,7 @@ use mathlib.Core.List.{List, _++_}
 use lib.Dec.{leb}
 use lib.ListN.{length, take, drop}
 use lib.Seq.{take-at}
-use borrow.Author.Tests.{le-leb, leb-true}
+use borrow.Author.Tests.{le-leb, lt-leb, leb-true}
 use Rattle.format.specs.Words.{Outcome, accepted, refused, unless}
 use Rattle.format.specs.Octets.{Octets}
 use Rattle.format.specs.Values as format
@@ -29,7 +29,7 @@ use Rattle.values.specs.Meaning.{refusalNumber, settingsFrom}
 use Rattle.values.specs.Answers.{writtenNumber, writtenCount, reading}
 use Rattle.values.specs.Promise.{Writes, Reads}
 use Rattle.values.proofs.OneAnswer.{one-writing}
-use Rattle.claims.specs.CodeClaims.{RefusedNothingHappens, AcceptedOtherwise, kept, ReadsBack, OwnReaderReadsBack, WritesAgain, OwnWriterWritesAgain}
+use Rattle.claims.specs.CodeClaims.{RefusedNothingHappens, AnsweredToC, AcceptedOtherwise, kept, ReadsBack, OwnReaderReadsBack, WritesAgain, OwnWriterWritesAgain}
 
 zero-one : {A : Type 0} (n : ℕ) → suc n ≡ 0 → A
 zero-one n e = absurd (omega arith)
@@ -47,6 +47,16 @@ refused-nothing-happens = (writer, reader)
     reader : (n : ℕ) (r : Reading) → Reads (refused n) r → (f : Refusal) × (r ≡ G.Refused f) × (refusalNumber f ≡ n)
     reader n (G.Stamp d) e = absurd (let z : _≡_ {A = ℕ} 0 1 = cc in omega arith)
     reader n (G.Refused f) e = (f, refl, cc)
+
+pub answered-to-c : AnsweredToC
+answered-to-c = (
+  λ n t v lent r count left p. (
+    λ m e. (rw e at (p .number), rw e at (p .count), rw e at (p .buffer)),
+    λ xs e h. let s = lt-leb (length xs) (length lent) h in (rw (e, s) at (p .number), rw (e, s) at (p .count), rw (e, s) at (p .buffer)),
+    λ xs e h. let s = le-leb (length xs) (length lent) h in (rw (e, s) at (p .number), rw (e, s) at (p .count), rw (e, s) at (p .buffer)),
+  ),
+  λ n s lent r left p. (λ m e. (rw e at (p .number), rw e at (p .parts)), λ a e. (rw e at (p .number), rw e at (p .parts))),
+)
 
 -- ---- accepted
 

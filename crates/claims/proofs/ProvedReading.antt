@@ -8,7 +8,7 @@ use lib.Dec.{leb, eqb}
 use lib.ListN.{length}
 use Rattle.format.specs.Words.{pick, both, ifAny, Outcome, accepted, refused, unless}
 use Rattle.format.specs.Octets.{Octets, signedOf}
-use Rattle.format.specs.Values.{Kind, timed, Value, timeInRange, offsetInRange, Form, text, compact, extended}
+use Rattle.format.specs.Values.{Kind, Date, DateTz, Time, TimeTz, Datetime, DatetimeTz, timed, Value, timeInRange, offsetInRange, Form, text, compact, extended}
 use Rattle.format.specs.Fields.{fit}
 use Rattle.format.specs.Text.{layout}
 use Rattle.format.specs.TextReading.{digitsFound, minusZero, numbersInRange, readFields, readText}
@@ -20,7 +20,7 @@ use Rattle.format.specs.EitherOr.{kindIn, readEither}
 use Rattle.format.proofs.Cases.{never}
 use Rattle.format.proofs.Choosing.{found-fits}
 use Rattle.format.proofs.Signed.{drop-octets}
-use Rattle.claims.specs.ReaderRefusals.{numbersIn, withOffset, numberPart, textLengthFits, lengthFits, octetsFit, nothingRedundant, allInRange, valueSaid, ChosenForm, FirstOf, ReaderFirstThatApplies, EitherFirstThatApplies, NeverRefusedWith}
+use Rattle.claims.specs.ReaderRefusals.{numbersIn, withOffset, numberPart, textLengthFits, compactUpTo, lengthFits, octetsFit, nothingRedundant, allInRange, valueSaid, ChosenForm, FirstOf, ReaderFirstThatApplies, EitherFirstThatApplies, NeverRefusedWith}
 use Rattle.claims.proofs.Questions.{text-found, text-lengths, compact-lengths, extended-lengths, fewest-or-padded, carried-at, numbers-fit, minus-zero, clock-fits}
 
 -- ---- the tests of each form are the four questions
@@ -71,12 +71,20 @@ four k s o = go (leb (length s) (longest k)) (both (timed k) (eqb (firstBits s) 
 first-of : (k : Kind) (f : Form) (s : List ℕ) (r : Outcome Value) → r ≡ Four k f s → FirstOf k f s (answer k f r)
 first-of k f s r e = rw e (λ a. rw a, λ a b. rw (a, b), λ a b c. rw (a, b, c), λ a b c d. rw (a, b, c, d), λ a b c d. rw (a, b, c, d))
 
+up-to : (k : Kind) → longest k ≡ compactUpTo k
+up-to Date = refl
+up-to DateTz = refl
+up-to Time = refl
+up-to TimeTz = refl
+up-to Datetime = refl
+up-to DatetimeTz = refl
+
 pub chosen-form : ChosenForm
 unfolding formIn headBits
 chosen-form k s = (
-  λ a. rw a,
-  λ a b. rw (a, b),
-  λ a b. (digitsFound k (length s), rw (a, b), λ e. found-fits k (length s) (text-found k (length s) e)),
+  λ a. rw (up-to k, a),
+  λ a b. rw (up-to k, a, b),
+  λ a b. (digitsFound k (length s), rw (up-to k, a, b), λ e. found-fits k (length s) (text-found k (length s) e)),
 )
 
 pub reader-first : ReaderFirstThatApplies

@@ -18,17 +18,18 @@ use mathlib.Core.Path.{_≡_}
 use mathlib.Core.Logic.{_↔_}
 use mathlib.Core.Bool.{true, false}
 use mathlib.Core.List.{List}
-use Prim.Native.Nat.{ℕ, _≤_}
+use Prim.Native.Nat.{ℕ, _+_, _-_, _%_, _^_, _<_, _≤_}
 use lib.IntN.{natAbs}
+use lib.Dec.{eqb}
 use lib.ListN.{length}
 use Rattle.format.specs.Words.{both, accepted, refused}
 use Rattle.format.specs.Octets.{Octets}
-use Rattle.format.specs.Values.{Kind, timed, zoned, Value, inRange, Settings, permitted, Form, text, compact, Answer}
+use Rattle.format.specs.Values.{Kind, dated, timed, zoned, Value, inRange, Settings, permitted, Form, text, compact, extended, Answer}
 use Rattle.format.specs.Choice.{formFor, settingsFor}
 use Rattle.format.specs.Writing.{encode, imageIn}
 use Rattle.format.specs.Reading.{read}
 use Rattle.format.specs.EitherOr.{readEither, familyOf, plainOf, excepted}
-use Rattle.format.specs.Keeping.{cut}
+use Rattle.format.specs.Keeping.{owned, cut}
 
 -- the answer of a reader: kind, form with its digits, value
 abbrev pub said : Kind → Form → Value → Answer
@@ -47,6 +48,18 @@ ReadsWhatWasWritten =
     (k : Kind) (t : Settings) (v : Value) (s : List ℕ) → encode k t v ≡ accepted s
     → read k s ≡ accepted (said k (formFor k t v) (cut k (formFor k t v) v))
 
+-- Cut, never rounded up: a text with d digits keeps multiples of 10^(6-d) microseconds, compact milliseconds, extended all. (At 24:00 a compact date-time is the
+-- start of the next day.) `CutTo u m c`: c is m, cut down to a multiple of u.
+abbrev pub CutTo : ℕ → ℕ → ℕ → Type 0
+CutTo u m c = (c % u ≡ 0) × (c ≤ m) × (m < c + u)
+
+abbrev pub NeverRoundedUp : Type 0
+NeverRoundedUp =
+    (k : Kind) (v : Value) → timed k ≡ true
+    → ((d : ℕ) → d ≤ 6 → CutTo (10 ^ (6 - d)) (v .micros) (cut k (text d) v .micros))
+    × (both (dated k) (eqb (v .micros) 86400000000) ≡ false → CutTo 1000 (v .micros) (cut k compact v .micros))
+    × (cut k extended v .micros ≡ v .micros)
+
 -- Writing it again in the form and digits found gives the same octets: what was read is of that kind and in range, its image in that form are
 -- these octets, and a writer gives them under the settings for that form.
 abbrev pub WritesWhatWasRead : Type 0
@@ -64,6 +77,14 @@ OwnKind =
     (k : Kind) (t : Settings) (v : Value) (s : List ℕ) → encode k t v ≡ accepted s → excepted k (formFor k t v) v ≡ false
     → (readEither (familyOf k) s ≡ read k s)
     × (readEither (familyOf k) s ≡ accepted (said k (formFor k t v) (cut k (formFor k t v) v)))
+
+-- (which these are, exactly: nothing else is left out of the claim above)
+abbrev pub TheExceptions : Type 0
+TheExceptions =
+    (k : Kind) (v : Value)
+    → ((d : ℕ) → excepted k (text d) v ≡ both (both (zoned k) (timed k)) (eqb d 0))
+    × (excepted k compact v ≡ both (both (zoned k) (timed k)) (eqb (natAbs (v .offset)) 0))
+    × (excepted k extended v ≡ false)
 
 -- a compact time or date-time with offset zero reads as plain, with the local reading that its own reader gives;
 abbrev pub CompactOffsetZero : Type 0
@@ -84,3 +105,7 @@ TextWithoutFraction =
 abbrev pub Images : Type 0
 Images =
     (k : Kind) (t : Settings) (v : Value) (s : List ℕ) → encode k t v ≡ accepted s → Octets s × (1 ≤ length s) × (length s ≤ 32)
+
+-- Parts that the kind lacks are not looked at: with 0 in their place (`owned k v`) the same is written.
+abbrev pub PartsLacked : Type 0
+PartsLacked = (k : Kind) (t : Settings) (v : Value) → encode k t (owned k v) ≡ encode k t v

@@ -4,11 +4,12 @@
 --
 -- o is what writing or reading comes to by the format, `lent` the buffer as it was lent, `left` as it was left, r the code's answer. `W.Octets n` is a
 -- writer's 'n octets', `G.Stamp` a reader's stamp, and `D.Date` .. the kind that it names.
-use Prim.Native.Nat.{ℕ, _≤_}
+use Prim.Native.Nat.{ℕ, _<_, _≤_}
 use mathlib.Core.Path.{_≡_}
 use mathlib.Core.Logic.{_↔_}
 use mathlib.Core.Bool.{true}
 use mathlib.Core.List.{List, _++_}
+use lib.IntN.{ℤ}
 use lib.ListN.{length, take, drop}
 use Rattle.format.specs.Words.{Outcome, accepted, refused}
 use Rattle.format.specs.Octets.{Octets}
@@ -42,6 +43,7 @@ use Rattle.values.specs.Promise.{Writes, Reads}
 use Rattle.values.specs.Calls.{SettingsForForm}
 use Rattle.stamp.specs.Calls.{WritesDate, WritesDateTz, WritesTime, WritesTimeTz, WritesDatetime, WritesDatetimeTz}
 use Rattle.stamp.specs.Calls.{ReadsDate, ReadsDateTz, ReadsTime, ReadsTimeTz, ReadsDatetime, ReadsDatetimeTz}
+use Rattle.boundary.specs.Boundary.{writing, readingOf, partsOf, WritesNumbered, ReadsNumbered}
 use Rattle.claims.specs.Claims.{said}
 
 -- Refused, nothing happens: the count is zero and every octet is as lent; a refused reading has the refusal's number and no value.
@@ -59,6 +61,19 @@ AcceptedOtherwise =
     ((writtenNumber r ≡ 0)
     ↔ ((format.digitsInRange (t .digits) ≡ true) × (format.inRange k v ≡ true) × (hasForm k (formFor k t v) v ≡ true) × (length image ≤ length lent)))
     × (writtenNumber r ≡ 0 → (writtenCount r ≡ length image) × (left ≡ image ++ drop (length image) lent)))
+
+-- What C gets, in 01's own numbers (0 for none): "A refused read returns its number and no value; a refused write its number and count 0, and the lent buffer stays as
+-- lent. An accepted write returns the image's length; octets past it stay as lent." `writing n t v`, `readingOf n s` are what it comes to at the kind with the number n, and
+-- `partsOf a` the eight parts of an answer (`boundary/specs/Boundary.antt`).
+abbrev pub AnsweredToC : Type 0
+AnsweredToC =
+    ((n : ℕ) (t : format.Settings) (v : format.Value) (lent : List ℕ) (r count : ℕ) (left : List ℕ) → WritesNumbered n t v lent r count left
+    → ((m : ℕ) → writing n t v ≡ refused m → (r ≡ m) × (count ≡ 0) × (left ≡ lent))
+    × ((image : List ℕ) → writing n t v ≡ accepted image → length lent < length image → (r ≡ 4) × (count ≡ 0) × (left ≡ lent))
+    × ((image : List ℕ) → writing n t v ≡ accepted image → length image ≤ length lent → (r ≡ 0) × (count ≡ length image) × (left ≡ image ++ drop (length image) lent)))
+    × ((n : ℕ) (s : List ℕ) (lent : List ℤ) (r : ℕ) (left : List ℤ) → ReadsNumbered n s lent r left
+    → ((m : ℕ) → readingOf n s ≡ refused m → (r ≡ m) × (left ≡ lent))
+    × ((a : format.Answer) → readingOf n s ≡ accepted a → (r ≡ 0) × (left ≡ partsOf a)))
 
 -- What our writer of a kind wrote, our reader of that kind reads back as the value, cut to what its form keeps:
 abbrev pub kept : format.Kind → Settings → format.Value → Outcome format.Answer

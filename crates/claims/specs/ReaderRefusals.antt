@@ -51,7 +51,7 @@ use Rattle.format.specs.Fields.{fit, says}
 use Rattle.format.specs.Text.{layout, textLength}
 use Rattle.format.specs.TextReading.{Numbers, named, dayNamed, textValue}
 use Rattle.format.specs.Compact.{start, paddedTo}
-use Rattle.format.specs.CompactReading.{longest, counted, compactValue}
+use Rattle.format.specs.CompactReading.{counted, compactValue}
 use Rattle.format.specs.Extended.{dayWidth, offsetFrom, extendedValue}
 use Rattle.format.specs.Reading.{firstBits, formIn, read}
 use Rattle.format.specs.EitherOr.{Family, kindIn, readEither}
@@ -123,6 +123,15 @@ compactLengthFits TimeTz n = between 1 6 n
 compactLengthFits Datetime n = between 1 6 n
 compactLengthFits DatetimeTz n = between 1 9 n
 
+-- and up to how many the form is compact, whether or not they fit it
+abbrev pub compactUpTo : Kind → ℕ
+compactUpTo Date = 3
+compactUpTo DateTz = 5
+compactUpTo Time = 4
+compactUpTo TimeTz = 6
+compactUpTo Datetime = 6
+compactUpTo DatetimeTz = 9
+
 -- 01, Extended: Time and TimeTz are 7 octets, Datetime and DatetimeTz 10; it is never chosen for the other two
 abbrev pub lengthFits : Kind → Form → List ℕ → Bool
 lengthFits k (text d) s = textLengthFits k (length s)
@@ -182,15 +191,15 @@ valueSaid k extended s = extendedValue k (twelveBits s) (dayField k s) (microsFi
 
 -- ---- the claims
 
--- How a reader chooses: up to so many octets (`longest k`, the column Compact) compact; longer, with the first four bits 1001 (9) of a zoned kind or 1000 (8) of
+-- How a reader chooses: up to so many octets (`compactUpTo k`) compact; longer, with the first four bits 1001 (9) of a zoned kind or 1000 (8) of
 -- a plain one, extended, which Date and DateTz have not; others text. Where the length is a text's, it is that of d digits (`textLength k d`, see `TheLengths`).
 abbrev pub ChosenForm : Type 0
 ChosenForm =
     (k : Kind) (s : List ℕ)
     → (let bits = both (timed k) (eqb (firstBits s) (pick (zoned k) 9 8)) in
-    (leb (length s) (longest k) ≡ true → formIn k s ≡ compact)
-    × (leb (length s) (longest k) ≡ false → bits ≡ true → formIn k s ≡ extended)
-    × (leb (length s) (longest k) ≡ false → bits ≡ false
+    (leb (length s) (compactUpTo k) ≡ true → formIn k s ≡ compact)
+    × (leb (length s) (compactUpTo k) ≡ false → bits ≡ true → formIn k s ≡ extended)
+    × (leb (length s) (compactUpTo k) ≡ false → bits ≡ false
     → (d : ℕ) × (formIn k s ≡ text d) × (textLengthFits k (length s) ≡ true → textLength k d ≡ length s)))
 
 -- o is the first refusal that applies to s as a k in the form f; or, where none does, the value that stands there, under that kind and form

@@ -10,13 +10,13 @@ use lib.Dec.{leb, eqb}
 use lib.ListN.{length}
 use Rattle.format.specs.Words.{Outcome, accepted, refused}
 use Rattle.format.specs.Octets.{Octets, signedOf, fewestOctets, tight}
-use Rattle.format.specs.Values.{Kind, DateTz, Datetime, Value, inRange, Settings, digitsInRange, text, Answer}
+use Rattle.format.specs.Values.{Kind, DateTz, Datetime, Value, inRange, Settings, text, Answer}
 use Rattle.format.specs.Choice.{formFor}
 use Rattle.format.specs.Writing.{imageIn, hasForm, encode}
 use Rattle.format.specs.Buffer.{counts}
 use Rattle.format.specs.Reading.{read}
 use Rattle.format.specs.EitherOr.{Family, readEither}
-use Rattle.format.specs.Bench.{old, of}
+use Rattle.format.specs.Bench.{ascii, old, of}
 use Rattle.claims.specs.Claims.{said}
 
 -- A writer: 1, digits above 6; else 2, out of range; else 3, the chosen form is not had; else it is accepted, with the image in that form; and then 4
@@ -24,10 +24,10 @@ use Rattle.claims.specs.Claims.{said}
 abbrev pub FirstThatApplies : Type 0
 FirstThatApplies =
     (k : Kind) (t : Settings) (v : Value)
-    → (digitsInRange (t .digits) ≡ false → encode k t v ≡ refused 1)
-    × (digitsInRange (t .digits) ≡ true → inRange k v ≡ false → encode k t v ≡ refused 2)
-    × (digitsInRange (t .digits) ≡ true → inRange k v ≡ true → hasForm k (formFor k t v) v ≡ false → encode k t v ≡ refused 3)
-    × (digitsInRange (t .digits) ≡ true → inRange k v ≡ true → hasForm k (formFor k t v) v ≡ true → encode k t v ≡ accepted (imageIn k (formFor k t v) v))
+    → (leb (t .digits) 6 ≡ false → encode k t v ≡ refused 1)
+    × (leb (t .digits) 6 ≡ true → inRange k v ≡ false → encode k t v ≡ refused 2)
+    × (leb (t .digits) 6 ≡ true → inRange k v ≡ true → hasForm k (formFor k t v) v ≡ false → encode k t v ≡ refused 3)
+    × (leb (t .digits) 6 ≡ true → inRange k v ≡ true → hasForm k (formFor k t v) v ≡ true → encode k t v ≡ accepted (imageIn k (formFor k t v) v))
 
 abbrev pub BufferLast : Type 0
 BufferLast =
@@ -72,14 +72,13 @@ writes =
 unfoldable pub writesCome : List (Outcome ℕ)
 writesCome = refused 1 ∷ refused 2 ∷ refused 3 ∷ refused 4 ∷ accepted 6 ∷ []
 
--- `x020-13-01-00:000`, `x020-13-01-00:00`, `2020-13-01-00:00`, `2020-13-01+00:00`, `2020-12-01+00:00`
 unfoldable pub reads : List (Outcome Answer)
 reads =
-    read DateTz (120 ∷ 48 ∷ 50 ∷ 48 ∷ 45 ∷ 49 ∷ 51 ∷ 45 ∷ 48 ∷ 49 ∷ 45 ∷ 48 ∷ 48 ∷ 58 ∷ 48 ∷ 48 ∷ 48 ∷ [])
-    ∷ read DateTz (120 ∷ 48 ∷ 50 ∷ 48 ∷ 45 ∷ 49 ∷ 51 ∷ 45 ∷ 48 ∷ 49 ∷ 45 ∷ 48 ∷ 48 ∷ 58 ∷ 48 ∷ 48 ∷ [])
-    ∷ read DateTz (50 ∷ 48 ∷ 50 ∷ 48 ∷ 45 ∷ 49 ∷ 51 ∷ 45 ∷ 48 ∷ 49 ∷ 45 ∷ 48 ∷ 48 ∷ 58 ∷ 48 ∷ 48 ∷ [])
-    ∷ read DateTz (50 ∷ 48 ∷ 50 ∷ 48 ∷ 45 ∷ 49 ∷ 51 ∷ 45 ∷ 48 ∷ 49 ∷ 43 ∷ 48 ∷ 48 ∷ 58 ∷ 48 ∷ 48 ∷ [])
-    ∷ read DateTz (50 ∷ 48 ∷ 50 ∷ 48 ∷ 45 ∷ 49 ∷ 50 ∷ 45 ∷ 48 ∷ 49 ∷ 43 ∷ 48 ∷ 48 ∷ 58 ∷ 48 ∷ 48 ∷ [])
+    read DateTz (ascii "x020-13-01-00:000")
+    ∷ read DateTz (ascii "x020-13-01-00:00")
+    ∷ read DateTz (ascii "2020-13-01-00:00")
+    ∷ read DateTz (ascii "2020-13-01+00:00")
+    ∷ read DateTz (ascii "2020-12-01+00:00")
     ∷ []
 
 unfoldable pub readsCome : List (Outcome Answer)

@@ -18,7 +18,7 @@ use Rattle.format.specs.Reading.{firstBits, formIn, readIn, read}
 use Rattle.format.specs.EitherOr.{excepted}
 use Rattle.format.specs.Keeping.{own, down, cut}
 use Rattle.format.specs.Bench.{bench, Fifteen, TextLengths, NamedDays}
-use Rattle.format.specs.Slips.{Slips, SlipsKept, SlipsDays}
+use Rattle.format.specs.Slips.{Slips, SlipsText, SlipsBinary, SlipsForms, SlipsKept, SlipsDays}
 
 pub fifteen : Fifteen
 unfolding sumFrom place leap yearLength monthLength isDay dayNumber timeInRange offsetInRange inRange formFor unsignedOctets signedOctets firstFrom fewestOctets perDay start count number greatest carried hasCompact paddedTo numberOctets compactImage headBits twelve dayWidth extendedImage imageIn hasForm encode bench
@@ -36,10 +36,22 @@ pub slips : Slips
 unfolding unsignedOctets unsignedAt signedOctets more signedOf firstFrom fewestOctets sumFrom leap yearLength monthLength isDay dayNumber timeInRange offsetInRange inRange formFor settingsFor areDigits numberAt digitsOf width put fitsAt saysAt widths puts fit says layout textLength fractionUnit textNumbers textImage digitsFrom digitsFound minusZero clockInRange numbersInRange textValue readFields readText perDay start count number greatest carried hasCompact paddedTo numberOctets compactImage shortest longestPlain carriedIn numberInRange usual compactValue readNumber readCompact headBits dayWidth offsetFrom extendedValue readExtended imageIn hasForm encode firstBits formIn readIn read
 slips = (refl, refl, refl, refl, refl, refl, refl, refl, refl, refl, refl)
 
+pub slips-text : SlipsText
+unfolding leap monthLength isDay timeInRange offsetInRange inRange formFor settingsFor areDigits numberAt digitsOf width put fitsAt saysAt widths puts fit says layout textLength fractionUnit textNumbers textImage digitsFrom digitsFound minusZero clockInRange numbersInRange textValue readFields readText headBits imageIn hasForm encode firstBits formIn readIn read
+slips-text = ((refl, refl), (refl, refl), (refl, refl), (refl, refl), (refl, refl), (refl, refl), refl, refl)
+
+pub slips-binary : SlipsBinary
+unfolding unsignedAt signedOctets more signedOf firstFrom fewestOctets sumFrom place leap yearLength monthLength isDay dayNumber dayOf timeInRange offsetInRange inRange formFor settingsFor perDay start count number greatest carried hasCompact paddedTo numberOctets compactImage shortest longestPlain carriedIn numberInRange usual compactValue readNumber readCompact headBits dayWidth offsetFrom extendedValue readExtended imageIn hasForm encode firstBits formIn readIn read
+slips-binary = (refl, refl, refl, refl, refl, refl, refl, refl)
+
+pub slips-forms : SlipsForms
+unfolding formFor settingsFor
+slips-forms = (refl, refl, refl, refl, refl, refl, refl)
+
 pub slips-kept : SlipsKept
 unfolding sumFrom place leap yearLength monthLength dayNumber dayOf fractionUnit own down cut excepted
-slips-kept = (refl, refl, refl, refl, refl, refl)
+slips-kept = (refl, refl, refl, refl, refl, refl, refl, refl)
 
 pub slips-days : SlipsDays
-unfolding leap monthLength isDay yearStart
-slips-days = (refl, refl, refl)
+unfolding sumFrom place leap yearLength monthLength isDay dayNumber dayOf yearStart
+slips-days = (refl, refl, refl, refl, refl, refl, refl, refl, refl, refl)

@@ -43,15 +43,6 @@ pub both-false : (a : Bool) → both a false ≡ false
 both-false true = refl
 both-false false = refl
 
--- which way a `pick` went, from what came out
-pub picked : {A : Type 0} (b : Bool) (x y z : A) → (y ≡ z → ⊥) → pick b x y ≡ z → (b ≡ true) × (x ≡ z)
-picked true x y z n e = (refl, e)
-picked false x y z n e = absurd (n e)
-
-pub unpicked : {A : Type 0} (b : Bool) (x y z : A) → (x ≡ z → ⊥) → pick b x y ≡ z → b ≡ false
-unpicked true x y z n e = absurd (n e)
-unpicked false x y z n e = refl
-
 -- an accepted outcome passed its first test
 pub passed : {A : Type 0} (b : Bool) (n : ℕ) (o : Outcome A) (a : A) → unless b n o ≡ accepted a → (b ≡ true) × (o ≡ accepted a)
 passed true n o a e = (refl, e)

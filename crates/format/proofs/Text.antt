@@ -31,11 +31,6 @@ unfolding bound
 when-small true f v h = h refl
 when-small false f v h = omega arith
 
-pub when-none : (b : Bool) (f : Field) (v : ℕ) → v < bound (when b f) → b ≡ false → v ≡ 0
-unfolding bound
-when-none true f v h e = absurd (let z : _≡_ {A = ℕ} 0 1 = cc in omega arith)
-when-none false f v h e = omega arith
-
 pub when-any : (b : Bool) (f : Field) (v : ℕ) → v < bound (when b f) → ifAny b v ≡ v
 unfolding bound
 when-any true f v h = refl

@@ -5,7 +5,10 @@
 --   lengthsOf k     a kind's text lengths, for digits 0 to 6
 --   TextLengths     they are those that 01 lists
 --   NamedDays       the day numbers that 01 names
+--   ascii "12:00"   the octets of a text
 use Prim.Native.Nat.{ℕ}
+use Prim.Native.Char.{code}
+use Prim.Native.String as S
 use mathlib.Core.Path.{_≡_}
 use mathlib.Core.Bool.{true}
 use mathlib.Core.List.{List, [], _∷_}
@@ -35,6 +38,10 @@ newSix = record { binary = true; version = 35500; digits = 6 }
 -- year, month, day, microseconds of the day, offset (-270 is `negsuc 269`)
 abbrev pub of : ℕ → ℕ → ℕ → ℕ → ℤ → Value
 of y m d micros offset = record { date = record { year = y; month = m; day = d }; micros = micros; offset = offset }
+
+abbrev pub ascii : S.String → List ℕ
+ascii S.[] = []
+ascii (S._∷_ c s) = code c ∷ ascii s
 
 abbrev pub row : Kind → Settings → Value → Outcome (List ℕ) → Case
 row k s v o = record { kind = k; settings = s; value = v; comes = o }
