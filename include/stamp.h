@@ -12,7 +12,9 @@
  * Every call takes any input and answers: a refusal number, 0 for none. After a refusal nothing has changed but
  * *count, which is 0: a lent buffer and a lent answer stay as they were. An octet past an accepted image stays too.
  * Nothing is allocated and nothing is kept between calls (no global state), so calls from several threads
- * need no lock; each thread lends its own buffers. A pointer to no octets (length or room 0) may be null; no other. */
+ * need no lock; each thread lends its own buffers. A pointer to no octets (length or room 0) may be null; no other.
+ * What is lent to one call must not overlap: octets[0 .. room-1] and *count of a write, octets[0 .. length-1] and
+ * parts[0 .. 7] of a read. */
 #ifndef STAMP_H
 #define STAMP_H
 

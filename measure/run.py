@@ -1,9 +1,11 @@
 #!/usr/bin/env python3
-"""Runs the driver of `make measure` in several processes, and writes the table of medians to docs/MEASURE.md.
+"""Runs the driver of `make measure` in several processes, and writes the table of medians to docs/MEASURE.md: the section of this machine, while
+those of other machines stay as they were measured there.
 
 usage: run.py PROGRAM [PROCESSES]"""
 import os
 import platform
+import re
 import subprocess
 import sys
 from pathlib import Path
@@ -71,22 +73,35 @@ def processor():
     return f"implementer {facts.get('CPU implementer', '?')}, part {facts.get('CPU part', '?')}"
 
 
+HEAD = '''# Measure
+
+Our calls beside a plain C version of the same work (`measure/plain_*.c`). `make measure` writes this page, a section for each machine that it was run on, with the commit that was measured; a section that names no commit is older than this sentence. Nothing in it is written by hand.
+'''
+
+
 def machine():
-    if platform.machine() == 'x86_64':
-        return 'x86-64; measured is the delivered archive, `libstamp.a`'
-    return f'{platform.machine()}; measured is the bitcode of the delivered archive, compiled for this machine (`measure/native-archive`)'
+    """Its name, and what is measured there."""
+    name = platform.machine()
+    if name == 'x86_64':
+        return 'x86-64', 'the delivered archive, `libstamp.a`'
+    return name, 'the bitcode of the delivered archive, compiled for this machine (`measure/native-archive`)'
 
 
-def page(about, rows, runs, load):
+def code():
+    """The commit that is measured."""
+    done = subprocess.run(['git', 'describe', '--always', '--dirty= with changes'], stdout=subprocess.PIPE, stderr=subprocess.DEVNULL, text=True)
+    return done.stdout.strip() or 'not known'
+
+
+def section(about, rows, runs, load):
+    name, archive = machine()
     spreads = sorted(row.spread for row in rows)
     cost = median(array_cost(each) for each in runs)
     return '\n'.join([
-        '# Measure',
+        f'## {name}',
         '',
-        'Our calls beside a plain C version of the same work (`measure/plain_*.c`). `make measure` writes this page; nothing in it is written by hand.',
-        '',
+        f'- Code: {code()}. Measured is {archive}.',
         f'- Processor: {processor()}, {os.cpu_count()} of them; load average {load:.2f} at the start.',
-        f'- Machine: {machine()}.',
         f"- Compiler: the kit's {about['compiler']}, for both.",
         f"- How: {len(runs)} processes, one after the other. In each, {int(about['values']):,} values a row, ours and plain in turns, {about['turns']} "
         'turns; a time is the median of the turns, and here the median of the processes. Both give the same answers to these values, or nothing is '
@@ -105,14 +120,26 @@ def page(about, rows, runs, load):
         ''])
 
 
+def sections(page):
+    """The sections of a page by their machine's name."""
+    return {found.split('\n', 1)[0][3:]: found for found in re.split(r'^(?=## )', page, flags=re.M)[1:]}
+
+
+def page(old, new):
+    """The old page with this section in the place of its machine's."""
+    found = {name: text.rstrip() + '\n' for name, text in {**sections(old), **sections(new)}.items()}
+    return '\n'.join([HEAD, *[found[name] for name in sorted(found)]])
+
+
 def main():
     if len(sys.argv) not in (2, 3):
         sys.exit(__doc__)
     load = os.getloadavg()[0]
     results = [run(sys.argv[1]) for _ in range(int(sys.argv[2]) if len(sys.argv) == 3 else 9)]
     runs = [rows for _, rows in results]
-    text = page(results[0][0], [Row(name, runs) for name in runs[0]], runs, load)
-    (Path(__file__).resolve().parent.parent / 'docs' / 'MEASURE.md').write_text(text)
+    text = section(results[0][0], [Row(name, runs) for name in runs[0]], runs, load)
+    path = Path(__file__).resolve().parent.parent / 'docs' / 'MEASURE.md'
+    path.write_text(page(path.read_text() if path.exists() else '', text))
     print(text, end='')
 
 
