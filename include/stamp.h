@@ -1,8 +1,8 @@
 /* stamp.h - reads and writes date-and-time stamps (BDE BER date-and-time format), for C99 and C++.
  *
  * A stamp is the contents octets of one of six kinds in one of three forms. Identifier and length octets are the
- * caller's. The library is the archive libstamp.a, and it exports two functions: stamp_write and stamp_read. All else
- * here is a constant, a struct, or a small inline function over these two.
+ * caller's. The library (libstamp.a, libstamp.so) exports two functions: stamp_write and stamp_read. All else here is a
+ * constant, a struct, or a small inline function over these two.
  *
  *     uint8_t lent[STAMP_LONGEST_IMAGE];
  *     size_t count;

@@ -80,11 +80,7 @@ Our calls beside a plain C version of the same work (`measure/plain_*.c`). `make
 
 
 def machine():
-    """Its name, and what is measured there."""
-    name = platform.machine()
-    if name == 'x86_64':
-        return 'x86-64', 'the delivered archive, `libstamp.a`'
-    return name, 'the bitcode of the delivered archive, compiled for this machine (`measure/native-archive`)'
+    return platform.machine().replace('x86_64', 'x86-64')
 
 
 def code():
@@ -94,13 +90,12 @@ def code():
 
 
 def section(about, rows, runs, load):
-    name, archive = machine()
     spreads = sorted(row.spread for row in rows)
     cost = median(array_cost(each) for each in runs)
     return '\n'.join([
-        f'## {name}',
+        f'## {machine()}',
         '',
-        f'- Code: {code()}. Measured is {archive}.',
+        f'- Code: {code()}. Measured is the delivered archive, `libstamp.a`.',
         f'- Processor: {processor()}, {os.cpu_count()} of them; load average {load:.2f} at the start.',
         f"- Compiler: the kit's {about['compiler']}, for both.",
         f"- How: {len(runs)} processes, one after the other. In each, {int(about['values']):,} values a row, ours and plain in turns, {about['turns']} "

@@ -3,28 +3,13 @@
 #include <stdio.h>
 #include <string.h>
 
+#include "records.h"
+#include "say.h"
+
 const char *const reader_words[STAMP_READERS] = {
     "date", "datetz", "time", "timetz", "datetime", "datetimetz",
     "date-or-datetz", "time-or-timetz", "datetime-or-datetimetz"
 };
-
-/* A word as it came, short, and without octets that a terminal could act upon. */
-static void say_word(const char *word)
-{
-    int room = 40;
-    fputs(": '", stderr);
-    for (; *word != '\0' && room > 0; word++, room--)
-        fputc(*word >= ' ' && *word <= '~' ? *word : '?', stderr);
-    fputs(*word == '\0' ? "'" : "..'", stderr);
-}
-
-void say_usage(const char *what, const char *word)
-{
-    fprintf(stderr, "stamp: %s", what);
-    if (word != NULL)
-        say_word(word);
-    fputs(" (stamp -h tells more)\n", stderr);
-}
 
 static bool wrong(const char *what, const char *word)
 {
@@ -35,16 +20,18 @@ static bool wrong(const char *what, const char *word)
 void print_help(void)
 {
     uint32_t number;
-    fputs("usage: stamp read KIND [HEX..] [--json]\n"
-          "       stamp write KIND [TEXT..] [--binary] [--version N] [--digits N] [--json]\n"
-          "       stamp explain [HEX..] [--json]\n"
+    fputs("usage: stamp read KIND [HEX..] [--raw] [--json]\n"
+          "       stamp write KIND [TEXT..] [--binary] [--version N] [--digits N] [--raw | --json]\n"
+          "       stamp explain [HEX..] [--raw] [--json]\n"
           "       stamp -h | -V\n"
-          "Without HEX or TEXT the stamps come from standard input, one a line.\n"
+          "Without HEX or TEXT, or for a -, the stamps come from standard input, one a line.\n"
+          "--raw: read and explain take standard input as the octets of one stamp,\n"
+          "       write prints the octets of its stamp and nothing else\n"
           "KIND: date datetz time timetz datetime datetimetz; for read also\n"
           "      date-or-datetz time-or-timetz datetime-or-datetimetz\n"
           "HEX:  the contents octets of one stamp, two hex digits each\n"
           "TEXT: the value as ISO 8601 text, such as 2019-12-31T23:59:59.999-04:30\n"
-          "Exit status: 0 accepted, 1 refused, 2 usage.\n"
+          "Exit status: 0 accepted, 1 refused, 2 usage, or input or output failed.\n"
           "Refusals:\n", stdout);
     for (number = 1; number <= STAMP_LAST_REFUSAL; number++)
         printf("  %u %s\n", (unsigned)number, stamp_refusal_sentence(number));
@@ -108,6 +95,10 @@ static bool parse_option(char **argv, int *at, request *into)
         into->json = true;
         return true;
     }
+    if (strcmp(word, "--raw") == 0) {
+        into->raw = true;
+        return true;
+    }
     if (strcmp(word, "-h") == 0 || strcmp(word, "--help") == 0) {
         into->asked = COMMAND_HELP;
         return true;
@@ -126,14 +117,41 @@ static bool parse_option(char **argv, int *at, request *into)
     return true;
 }
 
+/* A `-` that is no record: it may stand once. */
+static bool add_standard_input(request *into)
+{
+    size_t at;
+    for (at = 0; at < into->count; at++)
+        if (into->records[at] == standard_input)
+            return wrong("standard input is named twice", standard_input);
+    into->records[into->count++] = standard_input;
+    return true;
+}
+
+/* Raw octets can't be told apart, so they are those of one stamp. */
+static bool raw_fits(const request *what)
+{
+    bool writes = what->asked == COMMAND_WRITE;
+    if (writes && what->json)
+        return wrong("write prints octets or objects: either --raw or --json", NULL);
+    if (what->count > 1)
+        return wrong("--raw is for one stamp", what->records[1]);
+    if (!writes && what->records[0] != standard_input)
+        return wrong("--raw takes the octets from standard input", what->records[0]);
+    return true;
+}
+
 /* The words from argv[at] on: options are heeded, the others are the kind (first, if there is one) and the records. */
-static bool parse_rest(char **argv, int at, request *into)
+static bool parse_words(char **argv, int at, request *into)
 {
     bool options = true, kind_due = into->asked == COMMAND_READ || into->asked == COMMAND_WRITE;
     for (; argv[at] != NULL; at++) {
         if (options && strcmp(argv[at], "--") == 0) {
             options = false;
-        } else if (options && argv[at][0] == '-') {
+        } else if (options && !kind_due && strcmp(argv[at], "-") == 0) {
+            if (!add_standard_input(into))
+                return false;
+        } else if (options && argv[at][0] == '-' && argv[at][1] != '\0') {
             if (!parse_option(argv, &at, into))
                 return false;
             if (into->asked == COMMAND_HELP)
@@ -149,11 +167,23 @@ static bool parse_rest(char **argv, int at, request *into)
     return !kind_due || parse_kind(NULL, into);
 }
 
+static bool parse_rest(char **argv, int at, request *into)
+{
+    if (!parse_words(argv, at, into))
+        return false;
+    if (into->asked == COMMAND_HELP)
+        return true;
+    if (into->count == 0)
+        into->records[into->count++] = standard_input;
+    return !into->raw || raw_fits(into);
+}
+
 bool parse_arguments(int argc, char **argv, request *into)
 {
     into->kind = STAMP_DATE;
     into->settings = stamp_default_settings();
     into->json = false;
+    into->raw = false;
     into->records = argv;
     into->count = 0;
     if (argc < 2)

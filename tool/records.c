@@ -1,19 +1,34 @@
 #include "records.h"
 
+#include <errno.h>
 #include <stdio.h>
+#include <unistd.h>
 
-#define RECORD_END (-1)
+#include "say.h"
+
+char standard_input[] = "-";
+
 #define NO_DIGIT (-1)
 
-bool from_standard_input(const source *from)
+/* What comes where no octet does. */
+enum { RECORD_END = -1, INPUT_END = -2, INPUT_FAILED = -3 };
+
+source source_of(char **arguments, size_t count, notation as)
 {
-    return from->count == 0;
+    source made = {arguments, count, as, 0, 0, 0};
+    return made;
 }
 
 static void append(record *into, uint8_t octet)
 {
     if (into->length < RECORD_ROOM)
         into->octets[into->length++] = octet;
+}
+
+static void append_given(record *into, int octet)
+{
+    if (into->given_length < sizeof into->given)
+        into->given[into->given_length++] = (char)octet;
 }
 
 static int hex_digit(int octet)
@@ -42,29 +57,53 @@ static bool take_hex(record *into, int *high, int octet)
     return true;
 }
 
-/* The next octet of an argument or of the line; both CR LF and LF end a line, and so does the end of the input. */
-static int next_octet(const char **word)
+/* Whether standard input was a terminal that is gone: then it ends as a file does, and only a question tells. */
+static bool is_gone(void)
 {
-    int octet, after;
-    if (*word != NULL)
-        return **word == '\0' ? RECORD_END : (unsigned char)*(*word)++;
-    octet = getchar();
-    if (octet == '\r') {
-        after = getchar();
-        if (after == '\n')
-            return RECORD_END;
-        ungetc(after, stdin);
-    }
-    return octet == '\n' || octet == EOF ? RECORD_END : octet;
+    errno = 0;
+    return !isatty(STDIN_FILENO) && errno == EIO;
 }
 
-/* Takes the record to its end, also behind a fault, so that the next record starts where it should. */
-static void take(const source *from, const char *word, record *into)
+/* An octet of standard input. A failure is never taken for its end; nor is it tried again, as what comes then may follow a gap. errno
+ * tells the reason. */
+static int next_of_input(void)
+{
+    int octet = getchar();
+    if (octet != EOF)
+        return octet;
+    return ferror(stdin) || is_gone() ? INPUT_FAILED : INPUT_END;
+}
+
+/* An octet of a line; both CR LF and LF end a line, and so does the end of the input. */
+static int next_of_line(void)
+{
+    int octet = next_of_input(), after;
+    if (octet == '\r') {
+        after = next_of_input();
+        if (after == '\n')
+            return RECORD_END;
+        if (after == INPUT_FAILED)
+            return INPUT_FAILED;
+        if (after != INPUT_END)
+            ungetc(after, stdin);
+    }
+    return octet == '\n' || octet == INPUT_END ? RECORD_END : octet;
+}
+
+static int next_of_argument(const char **word)
+{
+    return **word == '\0' ? RECORD_END : (unsigned char)*(*word)++;
+}
+
+/* Takes the argument, or the line where that is null, to its end, also behind a fault, so that the next record starts where it should.
+ * False where standard input failed. */
+static bool take(notation as, const char *word, record *into)
 {
     uint64_t column = 1;
     int high = NO_DIGIT, octet;
-    while ((octet = next_octet(&word)) != RECORD_END) {
-        if (!from->hex)
+    while ((octet = word != NULL ? next_of_argument(&word) : next_of_line()) >= 0) {
+        append_given(into, octet);
+        if (as == NOTATION_TEXT)
             append(into, (uint8_t)octet);
         else if (into->fault == 0 && !take_hex(into, &high, octet))
             into->fault = column;
@@ -72,31 +111,77 @@ static void take(const source *from, const char *word, record *into)
     }
     if (into->fault == 0 && high != NO_DIGIT)
         into->fault = column;
+    return octet != INPUT_FAILED;
 }
 
-static bool any_input(void)
+/* Takes all of standard input, but for what is beyond the room. */
+static bool take_raw(record *into)
 {
-    int octet = getchar();
-    if (octet == EOF)
-        return false;
-    ungetc(octet, stdin);
-    return true;
+    int octet = 0;
+    while (into->length < RECORD_ROOM && (octet = next_of_input()) >= 0)
+        append(into, (uint8_t)octet);
+    return octet != INPUT_FAILED;
 }
 
-bool next_record(source *from, record *into)
+/* In the line, or 0 for raw octets. */
+static outcome failed(uint64_t line)
 {
-    const char *word = NULL;
-    if (from_standard_input(from)) {
-        if (!any_input())
-            return false;
-    } else {
-        if (from->taken == from->count)
-            return false;
-        word = from->words[from->taken];
-    }
+    say_failure("standard input cannot be read", line, errno);
+    return RECORD_FAILED;
+}
+
+static void start(source *from, record *into)
+{
     into->length = 0;
+    into->given_length = 0;
     into->fault = 0;
+    into->argument = 0;
+    into->line = 0;
     into->number = ++from->taken;
-    take(from, word, into);
-    return true;
+}
+
+static outcome next_argument(source *from, record *into)
+{
+    const char *word = from->arguments[from->done++];
+    start(from, into);
+    into->argument = from->done;
+    take(from->as, word, into);
+    return RECORD_TAKEN;
+}
+
+/* The next line, or RECORD_NONE at the end of the input. */
+static outcome next_line(source *from, record *into)
+{
+    int octet = next_of_input();
+    if (octet == INPUT_END)
+        return RECORD_NONE;
+    from->lines++;
+    if (octet == INPUT_FAILED)
+        return failed(from->lines);
+    ungetc(octet, stdin);
+    start(from, into);
+    into->line = from->lines;
+    return take(from->as, NULL, into) ? RECORD_TAKEN : failed(from->lines);
+}
+
+static outcome whole_input(source *from, record *into)
+{
+    from->done++;
+    start(from, into);
+    return take_raw(into) ? RECORD_TAKEN : failed(0);
+}
+
+outcome next_record(source *from, record *into)
+{
+    outcome found;
+    for (; from->done < from->count; from->done++) {
+        if (from->arguments[from->done] != standard_input)
+            return next_argument(from, into);
+        if (from->as == NOTATION_RAW)
+            return whole_input(from, into);
+        found = next_line(from, into);
+        if (found != RECORD_NONE)
+            return found;
+    }
+    return RECORD_NONE;
 }

@@ -1,31 +1,53 @@
-/* Records: the octets of one stamp, or of one value's text, from an argument or from a line of standard input. */
+/* Records: the octets of one stamp, or of one value's text, from an argument or from standard input. */
 #ifndef TOOL_RECORDS_H
 #define TOOL_RECORDS_H
 
 #include "stamp.h"
 
 /* One octet more than any stamp has. A record that fills this room stands for every longer one: from 33 octets on
- * every reader answers alike (5), so a line of any length is read without keeping it. */
+ * every reader answers alike (5), so a record of any length is read without keeping it. */
 #define RECORD_ROOM (STAMP_LONGEST_IMAGE + 1)
+
+/* So much is kept of a record as it was given, to be shown where it is refused; one octet more stands for all that is longer. */
+#define LONGEST_SHOWN 72
 
 typedef struct record {
     uint8_t octets[RECORD_ROOM];
     size_t length;
-    uint64_t number;    /* of the argument or line, counted from one */
-    uint64_t fault;     /* the column, counted from one, where it stops being hex; 0 for nowhere */
+    char given[LONGEST_SHOWN + 1];      /* the argument or line itself, without its end */
+    size_t given_length;
+    uint64_t number;                    /* counted from one */
+    uint64_t argument;                  /* the argument it came by, counted from one, or .. */
+    uint64_t line;                      /* .. the line of standard input; the other one is 0, and both are for raw octets */
+    uint64_t fault;                     /* the column, counted from one, where it stops being hex; 0 for nowhere */
 } record;
 
-/* Where the records come from: words of the command line, or standard input if there is no such word. */
+/* How octets are given. */
+typedef enum notation {
+    NOTATION_HEX,                       /* two hex digits an octet, blanks between octets; a record a line */
+    NOTATION_TEXT,                      /* as they are; a record a line */
+    NOTATION_RAW                        /* as they are; all of standard input is one record */
+} notation;
+
+/* The argument that stands for standard input: this very pointer, as another `-` may be a record. */
+extern char standard_input[];
+
+/* Where the records come from. */
 typedef struct source {
-    char **words;
+    char **arguments;
     size_t count;
-    bool hex;           /* two hex digits an octet, blanks between octets; otherwise the octets as they are */
-    uint64_t taken;     /* records so far */
+    notation as;
+    size_t done;                        /* arguments so far */
+    uint64_t taken;                     /* records so far */
+    uint64_t lines;                     /* lines of standard input so far */
 } source;
 
-bool from_standard_input(const source *from);
+source source_of(char **arguments, size_t count, notation as);
 
-/* The next record, or false if there is none left. */
-bool next_record(source *from, record *into);
+/* RECORD_FAILED: standard input failed before the record's end. What there was of it is no record; it has been said on standard
+ * error that it failed, and why. */
+typedef enum outcome { RECORD_TAKEN, RECORD_NONE, RECORD_FAILED } outcome;
+
+outcome next_record(source *from, record *into);
 
 #endif

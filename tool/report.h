@@ -2,17 +2,20 @@
 #ifndef TOOL_REPORT_H
 #define TOOL_REPORT_H
 
+#include <stdio.h>
+
 #include "records.h"
 
 typedef struct report {
+    FILE *to;
     bool json;
-    const char *place;      /* what a record's number counts ("line"), or null where there is only one record */
+    bool several;           /* there may be more than one argument: say which one is refused */
 } report;
 
 /* What an answer is about, beside the record. */
 typedef struct about {
     const char *reader;     /* explain: the reader that answers; otherwise null */
-    const record *given;    /* write: the text of the value; otherwise null */
+    bool written;           /* write: the record is the text of a value; otherwise it is the stamp */
     bool exact;             /* write: the stamp keeps the whole value given */
 } about;
 
@@ -23,6 +26,7 @@ void report_heading(const report *how, const record *of);
 void report_stamp(const report *how, const record *of, const stamp_decoded *found,
                   const uint8_t *octets, size_t length, about more);
 
+/* A refusal, and what was refused. */
 void report_refusal(const report *how, const record *of, uint32_t refusal, about more);
 
 /* A record that is not hex. */

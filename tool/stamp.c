@@ -3,20 +3,23 @@
 #include <stdio.h>
 
 #include "arguments.h"
+#include "output.h"
 #include "records.h"
 #include "report.h"
+#include "say.h"
 
-static const about nothing_more = {NULL, NULL, true};
+static const about of_a_stamp = {NULL, false, true};
+static const about of_a_value = {NULL, true, true};
 
 static int answer_read(const request *what, const report *how, const record *of)
 {
     stamp_decoded found;
     uint32_t refusal = stamp_decode(what->kind, of->octets, of->length, &found);
     if (refusal != STAMP_ACCEPTED) {
-        report_refusal(how, of, refusal, nothing_more);
+        report_refusal(how, of, refusal, of_a_stamp);
         return EXIT_REFUSED;
     }
-    report_stamp(how, of, &found, of->octets, of->length, nothing_more);
+    report_stamp(how, of, &found, of->octets, of->length, of_a_stamp);
     return EXIT_ACCEPTED;
 }
 
@@ -35,24 +38,37 @@ static bool same_value(const stamp_value *left, const stamp_value *right)
         && left->day == right->day && left->micros == right->micros && left->offset == right->offset;
 }
 
-/* What is shown is read back from the stamp, so that one sees what its reader will see. */
+/* A stamp that was written. What is shown of it is read back from it, so that one sees what its reader will see. */
+typedef struct written {
+    stamp_decoded given, kept;
+    uint8_t octets[STAMP_LONGEST_IMAGE];
+    size_t length;
+} written;
+
+static uint32_t write_stamp(const request *what, const record *of, written *into)
+{
+    uint32_t refusal = read_text(what->kind, of, &into->given);
+    if (refusal == STAMP_ACCEPTED)
+        refusal = stamp_encode(&into->given.value, what->settings, into->octets, sizeof into->octets, &into->length);
+    if (refusal == STAMP_ACCEPTED)
+        refusal = stamp_decode(what->kind, into->octets, into->length, &into->kept);
+    return refusal;
+}
+
 static int answer_write(const request *what, const report *how, const record *of)
 {
-    uint8_t octets[STAMP_LONGEST_IMAGE];
-    size_t length = 0;
-    stamp_decoded given, kept;
-    about more = {NULL, of, true};
-    uint32_t refusal = read_text(what->kind, of, &given);
-    if (refusal == STAMP_ACCEPTED)
-        refusal = stamp_encode(&given.value, what->settings, octets, sizeof octets, &length);
-    if (refusal == STAMP_ACCEPTED)
-        refusal = stamp_decode(what->kind, octets, length, &kept);
+    written made;
+    about more = of_a_value;
+    uint32_t refusal = write_stamp(what, of, &made);
     if (refusal != STAMP_ACCEPTED) {
-        report_refusal(how, of, refusal, nothing_more);
+        report_refusal(how, of, refusal, of_a_value);
         return EXIT_REFUSED;
     }
-    more.exact = same_value(&given.value, &kept.value);
-    report_stamp(how, of, &kept, octets, length, more);
+    more.exact = same_value(&made.given.value, &made.kept.value);
+    if (what->raw)
+        fwrite(made.octets, 1, made.length, stdout);
+    else
+        report_stamp(how, of, &made.kept, made.octets, made.length, more);
     return EXIT_ACCEPTED;
 }
 
@@ -60,7 +76,7 @@ static int answer_write(const request *what, const report *how, const record *of
 static int answer_explain(const report *how, const record *of)
 {
     stamp_decoded found;
-    about more = nothing_more;
+    about more = of_a_stamp;
     uint32_t kind, refusal;
     int status = EXIT_REFUSED;
     report_heading(how, of);
@@ -81,7 +97,7 @@ static int answer(const request *what, const report *how, const record *of)
 {
     if (of->fault != 0) {
         report_fault(how, of);
-        return EXIT_USAGE;
+        return EXIT_TROUBLE;
     }
     if (what->asked == COMMAND_READ)
         return answer_read(what, how, of);
@@ -90,49 +106,72 @@ static int answer(const request *what, const report *how, const record *of)
     return answer_explain(how, of);
 }
 
-/* Answers all records. The status is the gravest of theirs; that there was none is never 'accepted'. */
-static int answer_all(const request *what)
+static notation notation_of(const request *what)
 {
-    source from = {what->records, what->count, what->asked != COMMAND_WRITE, 0};
-    report how = {what->json, NULL};
+    if (what->asked == COMMAND_WRITE)
+        return NOTATION_TEXT;
+    return what->raw ? NOTATION_RAW : NOTATION_HEX;
+}
+
+static int none_given(void)
+{
+    say_usage("no stamp was given", NULL);
+    return EXIT_TROUBLE;
+}
+
+/* Answers all records. The status is the gravest of theirs; that there was none is never 'accepted'. */
+static int answer_all(const request *what, source *from)
+{
+    report how = {stdout, what->json, what->count > 1};
     record of;
+    outcome found;
     int status = EXIT_ACCEPTED, one;
-    if (from_standard_input(&from))
-        how.place = "line";
-    else if (from.count > 1)
-        how.place = "argument";
-    while (next_record(&from, &of)) {
+    while ((found = next_record(from, &of)) == RECORD_TAKEN) {
         one = answer(what, &how, &of);
+        output_record();
         if (one > status)
             status = one;
     }
-    if (ferror(stdin)) {
-        say_usage("standard input cannot be read", NULL);
-        return EXIT_USAGE;
-    }
-    if (from.taken == 0) {
-        say_usage("no stamp was given", NULL);
-        return EXIT_USAGE;
-    }
-    return status;
+    if (found == RECORD_FAILED)
+        return EXIT_TROUBLE;
+    return from->taken == 0 ? none_given() : status;
+}
+
+/* Writes the octets of one stamp and nothing else: what is refused is said on standard error, and of two values neither is written. */
+static int answer_raw(const request *what, source *from)
+{
+    report how = {stderr, false, false};
+    record of, other;
+    outcome found = next_record(from, &of);
+    if (found == RECORD_NONE)
+        return none_given();
+    if (found == RECORD_FAILED)
+        return EXIT_TROUBLE;
+    found = next_record(from, &other);
+    if (found == RECORD_NONE)
+        return answer_write(what, &how, &of);
+    if (found == RECORD_TAKEN)
+        say_usage("--raw is for one stamp, and there are more lines", NULL);
+    return EXIT_TROUBLE;
 }
 
 int main(int argc, char **argv)
 {
     request what;
+    source from;
     int status = EXIT_ACCEPTED;
     if (!parse_arguments(argc, argv, &what))
-        return EXIT_USAGE;
+        return EXIT_TROUBLE;
+    output_start();
+    from = source_of(what.records, what.count, notation_of(&what));
     if (what.asked == COMMAND_HELP)
         print_help();
     else if (what.asked == COMMAND_RELEASE)
         printf("stamp %s\n", STAMP_RELEASE);
+    else if (what.asked == COMMAND_WRITE && what.raw)
+        status = answer_raw(&what, &from);
     else
-        status = answer_all(&what);
-    /* An answer that was not printed was not given. */
-    if (fflush(stdout) != 0 || ferror(stdout)) {
-        fputs("stamp: standard output cannot be written\n", stderr);
-        return EXIT_USAGE;
-    }
+        status = answer_all(&what, &from);
+    output_end();
     return status;
 }

@@ -62,6 +62,7 @@ static void try_round(const stamp_value *value, stamp_settings settings, uint32_
     size_t count = 99, count_again = 99;
     stamp_decoded found;
     memset(lent, 0x5A, sizeof lent);
+    memset(&found, 0x5A, sizeof found);
     try_that(stamp_encode(value, settings, lent, STAMP_LONGEST_IMAGE, &count) == STAMP_ACCEPTED, "it is written");
     try_that(count <= STAMP_LONGEST_IMAGE && lent[count] == 0x5A, "what is past the stamp stays as lent");
     if (form == STAMP_TEXT)

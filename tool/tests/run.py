@@ -10,9 +10,10 @@ transcript is a file beside this one whose name ends in .transcript:
     exit 0
 
 A command is a line for the shell; its output (both streams) follows, and then
-its exit status. The examples in the man page and in the README are tried too,
+its exit status. `faulty`, beside this file, gives the tool an input or output
+that fails. The tool's commands in the man page and in the README are tried too,
 without the status. The man page's refusals and release are compared with the
-tool's, and the README's example with the file.
+tool's.
 Last line: 'N passed, M failed'.
 """
 
@@ -20,83 +21,10 @@ import os
 import re
 import shlex
 import shutil
-import subprocess
 import sys
 import tempfile
 
-HERE = os.path.dirname(os.path.abspath(__file__))
-ROOT = os.path.dirname(os.path.dirname(HERE))
-MANUAL = os.path.join(ROOT, "docs", "stamp.1")
-README = os.path.join(ROOT, "README.md")
-EXAMPLE = os.path.join(ROOT, "examples", "roundtrip.c")
-
-
-def lines_of(path):
-    with open(path, encoding="utf-8") as file:
-        return file.read().split("\n")
-
-
-def cases_in(lines):
-    """Yields (command, output, status); the status is None where none is given."""
-    command, output = None, []
-    for line in lines + ["$ "]:
-        if line.startswith("$ "):
-            if command is not None:
-                yield command, output, None
-            command, output = line[2:], []
-        elif command is not None and re.fullmatch(r"exit \d+", line):
-            yield command, output, int(line[5:])
-            command = None
-        elif command is not None:
-            output.append(line)
-
-
-def plain(line):
-    """A line of the man page without its escapes."""
-    return line.replace("\\-", "-").replace("\\&", "")
-
-
-def manual_examples():
-    inside = False
-    for line in lines_of(MANUAL):
-        if line in (".EX", ".EE"):
-            inside = line == ".EX"
-        elif inside:
-            yield plain(line)
-
-
-def readme_examples():
-    """The tool's commands in indented blocks, each with what is printed below it."""
-    if not os.path.exists(README):
-        return
-    inside = False
-    for line in lines_of(README):
-        if line.startswith("    $ "):
-            inside = line.startswith("    $ stamp ")
-        inside = inside and line.startswith("    ")
-        if inside:
-            yield line[4:]
-
-
-def run(command, folder):
-    """What the shell prints and its status, with `stamp` standing for the tool under test."""
-    path = folder + os.pathsep + os.environ.get("PATH", "")
-    done = subprocess.run(["sh", "-c", command], cwd=folder, env=dict(os.environ, PATH=path, LC_ALL="C"),
-                          stdin=subprocess.DEVNULL, stdout=subprocess.PIPE, stderr=subprocess.STDOUT, timeout=120)
-    text = done.stdout.decode("utf-8", "replace")
-    return text.split("\n")[:-1] if text.endswith("\n") else text.split("\n") if text else [], done.returncode
-
-
-def tried(where, case, folder):
-    """Whether the command still does what the transcript says; tells the difference where not."""
-    command, expected, status = case
-    found, found_status = run(command, folder)
-    if found == expected and status in (None, found_status):
-        return True
-    print("FAILED %s: $ %s" % (where, command))
-    for sign, lines in (("- ", expected + ["exit %s" % status]), ("+ ", found + ["exit %d" % found_status])):
-        print("\n".join(sign + line[:300] for line in lines))
-    return False
+from transcripts import HERE, MANUAL, cases_in, lines_of, manual_cases, plain, readme_cases, run, tried
 
 
 def refusals_agree(folder):
@@ -116,14 +44,6 @@ def release_agrees(folder):
     release, _ = run("stamp -V", folder)
     good = len(release) == 1 and '"%s"' % release[0] in lines_of(MANUAL)[0]
     print("" if good else "FAILED release: %s is not in the man page's first line\n" % release, end="")
-    return good
-
-
-def example_is_printed():
-    """The README, if there is one, prints the example as it is."""
-    example = "\n".join(lines_of(EXAMPLE))
-    good = not os.path.exists(README) or example in "\n".join(lines_of(README))
-    print("" if good else "FAILED example: README.md does not print examples/roundtrip.c\n", end="")
     return good
 
 
@@ -151,9 +71,9 @@ def main(words):
                 # Blank lines and comments stand between cases for the reader alone.
                 lines = [line for line in lines_of(os.path.join(HERE, name)) if line and not line.startswith("#")]
                 results += [case[2] is not None and tried(name, case, folder) for case in cases_in(lines)]
-        results += [tried("stamp.1", case, folder) for case in cases_in(list(manual_examples()))]
-        results += [tried("README.md", case, folder) for case in cases_in(list(readme_examples()))]
-        results += [refusals_agree(folder), release_agrees(folder), example_is_printed()]
+        results += [tried("stamp.1", case, folder) for case in manual_cases()]
+        results += [tried("README.md", case, folder) for case in readme_cases(of_the_tool=True)]
+        results += [refusals_agree(folder), release_agrees(folder)]
     print("%d passed, %d failed" % (results.count(True), results.count(False)))
     return 0 if all(results) else 1
 

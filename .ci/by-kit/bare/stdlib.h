@@ -2,6 +2,6 @@
 #ifndef BARE_STDLIB_H
 #define BARE_STDLIB_H
 
-void exit(int status);
+void _Exit(int status);
 
 #endif

@@ -9,5 +9,6 @@ int memcmp(const void *left, const void *right, size_t length);
 void *memset(void *octets, int octet, size_t length);
 size_t strlen(const char *text);
 char *strchr(const char *text, int octet);
+char *strerror(int reason);
 
 #endif
