@@ -1,4 +1,5 @@
-/* A small generator of numbers that look random, the same on every machine (SplitMix64: Steele, Lea, Flood, 2014). */
+/* A small generator of numbers that look random, the same on every machine (SplitMix64: Steele, Lea, Flood, 2014), if no
+ * two are drawn in one expression whose order C leaves to the compiler. */
 #ifndef MASS_CHANCE_H
 #define MASS_CHANCE_H
 

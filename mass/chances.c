@@ -107,7 +107,9 @@ static void shaped_text(image *to, chance *by)
 /* A header's bits and then what an extended form may have, of a right or a wrong length. */
 static void headed_octets(image *to, chance *by)
 {
-    add_number(to, 0x8000 + 0x1000 * chance_below(by, 2) + (chance_once_in(by, 2) ? 0 : chance_below(by, 4096)), 2);
+    uint64_t header = 0x8000 + 0x1000 * chance_below(by, 2);
+    header += chance_once_in(by, 2) ? 0 : chance_below(by, 4096);
+    add_number(to, header, 2);
     if (chance_once_in(by, 2))
         add_number(to, chance_below(by, 3652058 * 5 / 4), 3);
     add_number(to, chance_below(by, STAMP_END_OF_DAY * 5 / 4), 5);
@@ -121,7 +123,9 @@ static void compact_octets(image *to, chance *by)
     if (chance_once_in(by, 2))
         add_number(to, chance_once_in(by, 4) ? 0 : (uint64_t)some_offset(by), 2);
     uint64_t number = chance_below(by, (uint64_t)1 << chance_below(by, 50));
-    add_number(to, chance_once_in(by, 2) ? number : 0 - number, 1 + (int)chance_below(by, 8));
+    if (chance_once_in(by, 2))
+        number = 0 - number;
+    add_number(to, number, 1 + (int)chance_below(by, 8));
 }
 
 /* 10,000 rounds to all nine readers. */

@@ -79,7 +79,8 @@ static void read_offset(char sign, uint64_t hours, uint64_t minutes, chance *by)
         add_decimal(&made, minutes, 2);
         check_read_by_two(kinds[i], made.octets, made.length);
         /* and with one octet wrong, which comes before -00:00 and before what is out of range */
-        made.octets[chance_below(by, made.length)] = chance_octet(by);
+        uint64_t place = chance_below(by, made.length);
+        made.octets[place] = chance_octet(by);
         check_read_by_two(kinds[i], made.octets, made.length);
     }
 }
