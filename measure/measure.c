@@ -1,6 +1,5 @@
 /* Times our calls beside the plain C version of the same work, in one process. Prints what was compiled and how often
- * it is run, `WHAT <tab> WORDS`, and then a line a row, `NAME <tab> ARRAY <tab> OURS <tab> PLAIN`: how often the call
- * reads the array of 400 year starts, and nanoseconds a call.
+ * it is run, `WHAT <tab> WORDS`, and then a line a row, `NAME <tab> OURS <tab> PLAIN`, in nanoseconds a call.
  *
  * A row's calls go over many different values, in no order: with a few hundred the processor learns by heart which
  * branch each of them takes. Ours and plain take turns, and of all turns the median counts: what else the machine
@@ -159,7 +158,6 @@ static bool read_same(const stamps *r, const sample *s)
 CALENDAR_WORK(number, measured_day_number(s->value.year, s->value.month, s->value.day),
               plain_day_number(s->value.year, s->value.month, s->value.day))
 CALENDAR_WORK(date, measured_date_of(s->number), plain_date_of(s->number))
-CALENDAR_WORK(start, measured_year_start(s->value.year), plain_year_start(s->value.year))
 
 /* ---- turns ---- */
 
@@ -199,7 +197,7 @@ static void compare(const char *name, const work *w, const stamps *r)
         }
 }
 
-static void report(const char *name, int array, work w, stamps r)
+static void report(const char *name, work w, stamps r)
 {
     double ours[TURNS], plain[TURNS];
     fill(&r);
@@ -210,7 +208,7 @@ static void report(const char *name, int array, work w, stamps r)
         ours[i] = nanoseconds(w.ours, &r);
         plain[i] = nanoseconds(w.plain, &r);
     }
-    printf("%s\t%d\t%.3f\t%.3f\n", name, array, median(ours), median(plain));
+    printf("%s\t%.3f\t%.3f\n", name, median(ours), median(plain));
 }
 
 /* ---- the rows ---- */
@@ -223,37 +221,29 @@ static const char *reader_name(uint32_t kind)
 
 static bool timed(uint32_t kind) { return kind < STAMP_KINDS ? kind >= STAMP_TIME : kind > STAMP_DATE_OR_DATETZ; }
 
-static bool dated(uint32_t kind)
-{
-    return kind < STAMP_KINDS ? kind < STAMP_TIME || kind >= STAMP_DATETIME : kind != STAMP_TIME_OR_TIMETZ;
-}
-
 static void report_stamps(uint32_t kind, uint32_t form)
 {
     const work writing = {write_ours, write_plain, write_same}, reading = {read_ours, read_plain, read_same};
     const stamps r = {kind, form};
-    const int array = dated(kind) && form != STAMP_TEXT;
     char name[80];
     if (form == STAMP_EXTENDED && !timed(kind))
         return;
     snprintf(name, sizeof name, "write %s, %s", reader_name(kind), stamp_form_name(form));
     if (kind < STAMP_KINDS)
-        report(name, array, writing, r);
+        report(name, writing, r);
     snprintf(name, sizeof name, "read %s, %s", reader_name(kind), stamp_form_name(form));
-    report(name, array, reading, r);
+    report(name, reading, r);
 }
 
 int main(void)
 {
     const work number = {number_ours, number_plain, number_same}, date = {date_ours, date_plain, date_same};
-    const work start = {start_ours, start_plain, start_same};
     const stamps any = {STAMP_DATE, STAMP_TEXT};
     printf("compiler\t%s, %s\nvalues\t%d\nturns\t%d\n", __VERSION__, LEVEL, VALUES, TURNS);
     for (uint32_t form = 0; form < STAMP_FORMS; form++)
         for (uint32_t kind = 0; kind < STAMP_READERS; kind++)
             report_stamps(kind, form);
-    report("day number of a date", 1, number, any);
-    report("date of a day number", 1, date, any);
-    report("year start of the cycle", 1, start, any);
+    report("day number of a date", number, any);
+    report("date of a day number", date, any);
     return kept == 0;
 }

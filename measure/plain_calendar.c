@@ -15,10 +15,3 @@ uint32_t plain_date_of(uint32_t number)
     set_date(&stamp, number);
     return stamp.year * 10000 + stamp.month * 100 + stamp.day;
 }
-
-uint32_t plain_year_start(uint32_t years)
-{
-    const uint32_t y = years % 400;
-
-    return 365 * y + y / 4 - y / 100;
-}

@@ -88,33 +88,31 @@ INLINE bool is_day(uint32_t year, uint32_t month, uint32_t day)
     return day - 1 < 28 || day - 1 < month_length(year, month);
 }
 
-/* For a day that exists. Years run from March, so that the leap day is their last. */
+/* For a day that exists. Years run from March, so that the leap day is their last. A product with a rounded constant is
+ * a hundredth of a year below 43,699, and its quarter costs a shift only, where two divisions would cost two products. */
 INLINE uint32_t day_number(uint32_t year, uint32_t month, uint32_t day)
 {
-    const bool early = month <= 2;
-    const uint32_t march_year = year - early;
-    const uint32_t march_month = early ? month + 12 : month;        /* 3 to 14 */
-    const uint32_t century = march_year / 100;
-    const uint32_t days_before_year = 1461 * march_year / 4 - century + century / 4;
-    const uint32_t days_before_month = (979 * march_month - 2919) / 32;
+    static const uint16_t days_before_month[] = { 0, 306, 337, 0, 31, 61, 92, 122, 153, 184, 214, 245, 275 };
+    const uint32_t march_year = year - (month <= 2);
+    const uint32_t century = march_year * 5243 >> 19;
+    const uint32_t days_before_year = (1461 * march_year >> 2) - century + (century >> 2);
 
-    return days_before_year + days_before_month + day - 307;        /* 306 from March to the year's end, day from 1 */
+    return days_before_year + days_before_month[month] + day - 307; /* 306 from March to the year's end, day from 1 */
 }
 
 /* For a number up to LAST_DAY_NUMBER. After Neri and Schneider, "Euclidean affine functions and their application to
- * calendar algorithms" (2022): three divisions by multiplication, and month and day out of one line. */
+ * calendar algorithms" (2022): divisions by multiplication, and month and day out of one line. The days that centuries
+ * lack are put back first (Joffe's "Julian map"), so that one product gives the year and its day. */
 INLINE void set_date(struct stamp *stamp, uint32_t number)
 {
-    const uint32_t quarters = 4 * (number + 306) + 3;               /* quarter days from 0000-03-01 */
-    const uint32_t century = quarters / 146097;
-    const uint32_t century_quarters = quarters % 146097 | 3;
-    const uint64_t years = UINT64_C(2939745) * century_quarters;    /* the year of the century, in 2^32nds */
-    const uint32_t year_of_century = (uint32_t)(years >> 32);
-    const uint32_t day_of_year = (uint32_t)years / 2939745 / 4;     /* from 1 March */
+    const uint64_t days = number + 306;                             /* from 0000-03-01 */
+    const uint64_t century = (days * 15051803 + 11288853) >> 39;    /* (4 * days + 3) / 146097 */
+    const uint64_t years = (days + century - (century >> 2)) * 11758980 + 8819235;  /* in 2^32nds */
+    const uint32_t day_of_year = (uint32_t)years / 11758980;        /* from 1 March */
     const uint32_t months = 2141 * day_of_year + 197913;            /* the month, in 2^16ths */
     const bool late = day_of_year >= 306;                           /* January or February: the next year's */
 
-    stamp->year = 100 * century + year_of_century + late;
+    stamp->year = (uint32_t)(years >> 32) + late;
     stamp->month = (months >> 16) - (late ? 12 : 0);
     stamp->day = (months & 0xFFFF) / 2141 + 1;
 }

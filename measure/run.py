@@ -11,12 +11,12 @@ import sys
 from pathlib import Path
 from statistics import median
 
-ARRAY_ROW = 'year start of the cycle'  # ours reads the array, plain has the formula: the difference is what the array costs
 SLOWER = 1.05
+COLUMNS = '| Call | Ours, ns | Plain, ns | Ratio |'
 
 
 def run(program):
-    """What one process prints: what was compiled, and name -> (reads the array, ours, plain), in nanoseconds."""
+    """What one process prints: what was compiled, and name -> (ours, plain), in nanoseconds."""
     about, rows = {}, {}
     done = subprocess.run([program], stdout=subprocess.PIPE, text=True)
     if done.returncode != 0:
@@ -26,7 +26,7 @@ def run(program):
         if len(cells) == 1:
             about[name] = cells[0]
         else:
-            rows[name] = (cells[0] == '1', float(cells[1]), float(cells[2]))
+            rows[name] = (float(cells[0]), float(cells[1]))
     return about, rows
 
 
@@ -36,30 +36,18 @@ class Row:
     def __init__(self, name, runs):
         own = [rows[name] for rows in runs]
         self.name = name
-        self.ours = median(ours for _, ours, _ in own)
-        self.plain = median(plain for _, _, plain in own)
-        ratios = [ours / plain for _, ours, plain in own]
+        self.ours = median(ours for ours, _ in own)
+        self.plain = median(plain for _, plain in own)
+        ratios = [ours / plain for ours, plain in own]
         self.ratio = median(ratios)
         self.spread = (max(ratios) - min(ratios)) / self.ratio
-        self.without = None
-        if own[0][0] and name != ARRAY_ROW:
-            self.without = median((rows[name][1] - array_cost(rows)) / rows[name][2] for rows in runs)
 
     def slower(self):
-        """Slower than plain, and not for the array alone."""
-        return self.name != ARRAY_ROW and (self.ratio if self.without is None else self.without) > SLOWER
+        return self.ratio > SLOWER
 
     def line(self):
         ratio = f'{self.ratio:.2f}'
-        without = '' if self.without is None else f'{self.without:.2f}'
-        if self.slower():
-            ratio, without = (f'**{ratio}**', '') if self.without is None else (ratio, f'**{without}**')
-        return f'| {self.name} | {self.ours:.1f} | {self.plain:.1f} | {ratio} | {without} |'
-
-
-def array_cost(rows):
-    _, array, formula = rows[ARRAY_ROW]
-    return array - formula
+        return f"| {self.name} | {self.ours:.1f} | {self.plain:.1f} | {f'**{ratio}**' if self.slower() else ratio} |"
 
 
 def processor():
@@ -91,7 +79,6 @@ def code():
 
 def section(about, rows, runs, load):
     spreads = sorted(row.spread for row in rows)
-    cost = median(array_cost(each) for each in runs)
     return '\n'.join([
         f'## {machine()}',
         '',
@@ -103,15 +90,12 @@ def section(about, rows, runs, load):
         'measured.',
         f'- Ratio: ours by plain, the median of the processes, among which it moved by {100 * median(spreads):.0f} % at the median row, by '
         f'{100 * spreads[-1]:.0f} % at the worst. Above {SLOWER} ours is slower; between 1 and {SLOWER} the difference may be chance.',
-        '- Without the array: a call with a date in a binary form, and the calendar, read the array of 400 year starts once, and it is built anew at '
-        f'each use. Measured by itself (the last row), that takes {cost:.1f} ns more than the formula. The column is (ours - these) / plain.',
         '',
-        '| Call | Ours, ns | Plain, ns | Ratio | Without the array |',
-        '|---|---:|---:|---:|---:|',
+        COLUMNS,
+        '|---|---:|---:|---:|',
         *[row.line() for row in rows],
         '',
-        f'Bold: slower than plain, and not for the array alone: {sum(row.slower() for row in rows)} of {len(rows) - 1}. '
-        '(The last row is the array by itself.)',
+        f'Bold: slower than plain: {sum(row.slower() for row in rows)} of {len(rows)}.',
         ''])
 
 
@@ -121,8 +105,8 @@ def sections(page):
 
 
 def page(old, new):
-    """The old page with this section in the place of its machine's."""
-    found = {name: text.rstrip() + '\n' for name, text in {**sections(old), **sections(new)}.items()}
+    """The old page with this section in the place of its machine's. A section with other columns is from an older measure, and goes."""
+    found = {name: text.rstrip() + '\n' for name, text in {**sections(old), **sections(new)}.items() if COLUMNS in text.splitlines()}
     return '\n'.join([HEAD, *[found[name] for name in sorted(found)]])
 
 

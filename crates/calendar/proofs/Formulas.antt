@@ -1,32 +1,28 @@
 -- The months by formulas: each is the calendar's, shown by one test that antt computes, for a common year and for a leap year,
--- at all 12 months or at all days of the year. Assumes nothing.
-use mathlib.Core.Path.{_≡_, refl}
+-- at all 12 months or at all days of the year. With them, a date's day number and the date of a day number by the year from March. Assumes nothing.
+use mathlib.Core.Path.{_≡_, refl, sym, _∙_, ap}
 use mathlib.Core.Logic.{⊎-elim}
 use mathlib.Core.Bool.{Bool, true, false}
-use Prim.Native.Nat.{ℕ, _+_, _-_, _*_, _/_, _%_, _<_, _≤_}
+use Prim.Native.Nat.{ℕ, suc, _+_, _-_, _*_, _/_, _%_, _<_, _≤_}
 use native.Mathlib.Omega.{arith}
 use lib.Dec.{T, leb, ltb, eqb, eqb→eq, leb→le}
-use borrow.Author.Tests.{lt-ltb, leb-true, eqb-true}
+use borrow.Author.Tests.{lt-ltb, le-ltb, leb-true, eqb-true}
 use lib.ListN.{replicate}
 use Rattle.format.specs.Words.{pick, both}
-use Rattle.format.specs.Walk.{sumFrom, Place, place}
-use Rattle.format.specs.Calendar.{monthLength}
+use Rattle.format.specs.Walk.{sumFrom}
+use Rattle.format.specs.Calendar.{Day, lastYear, lastNumber, leap, yearLength, monthLength, isDay, dayNumber, dayOf}
 use Rattle.format.proofs.Cases.{lt-or-le, both-true}
 use Rattle.format.proofs.Table.{every, below}
-use Rattle.format.proofs.Walk.{parts-place}
-use Rattle.calendar.specs.Steps.{lack, startOf, shiftedBy, monthOf}
+use Rattle.format.proofs.Dates.{Parts, parts, is-date, date-number}
+use Rattle.format.proofs.Years.{years}
+use Rattle.calendar.specs.Steps.{toJanuary, marchYear, marchDays}
+use Rattle.calendar.proofs.March.{extra, long, next-year}
 
-pub lack-small : (l early : Bool) → lack l early ≤ 2
-lack-small l true = omega arith
-lack-small true false = omega arith
-lack-small false false = omega arith
+-- ---- how long a month is
 
--- the formulas, of month m from 1
+-- month m from 1
 abbrev pub lengthBy : Bool → ℕ → ℕ
-lengthBy l m = pick (eqb m 2) (30 - lack l false) (30 + (m + m / 8) % 2)
-
-abbrev pub startBy : Bool → ℕ → ℕ
-startBy l m = startOf m - lack l (ltb m 3)
+lengthBy l m = pick (eqb m 2) (pick l 29 28) (30 + (m + m / 8) % 2)
 
 -- what holds of the month after each k below 12 holds of each month
 months : (g h : ℕ → ℕ) → T (every (λ k x. eqb (g (k + 1)) (h k)) 0 (replicate 12 0)) → (m : ℕ) → 1 ≤ m → m ≤ 12 → g m ≡ h (m - 1)
@@ -46,52 +42,116 @@ unfolding monthLength
 month-long true m a b = leb→le _ _ (below (λ k. leb 28 (monthLength true k)) 12 tt (m - 1) (omega arith))
 month-long false m a b = leb→le _ _ (below (λ k. leb 28 (monthLength false k)) 12 tt (m - 1) (omega arith))
 
-pub month-start : (l : Bool) (m : ℕ) → 1 ≤ m → m ≤ 12 → startBy l m ≡ sumFrom (monthLength l) 0 (m - 1)
-unfolding monthLength sumFrom
-month-start true = months (startBy true) (sumFrom (monthLength true) 0) tt
-month-start false = months (startBy false) (sumFrom (monthLength false) 0) tt
+-- ---- a date's day number, by its year from March
 
--- the place of day d among the months: the month, and how many days in
-abbrev by : Bool → ℕ → Place
-by l d = record { index = monthOf (shiftedBy l d) - 1; rest = shiftedBy l d - startOf (monthOf (shiftedBy l d)) }
+abbrev startBy : ℕ → ℕ
+startBy m = pick (ltb m 3) ((979 * m + 8829) / 32) ((979 * m - 2919) / 32)
 
--- with what the two differences need
-abbrev fits : Bool → ℕ → Bool
-fits l d =
-    both (both (leb 1 (monthOf (shiftedBy l d))) (leb (monthOf (shiftedBy l d)) 12))
-    (both (leb (startOf (monthOf (shiftedBy l d))) (shiftedBy l d))
-    (both (eqb (by l d .index) (place (monthLength l) 11 0 d .index)) (eqb (by l d .rest) (place (monthLength l) 11 0 d .rest))))
+pub month-start : (m : ℕ) → 1 ≤ m → m ≤ 12 → startBy m ≡ marchDays m
+unfolding marchDays monthLength sumFrom
+month-start m a b =
+    let e : m - 1 + 1 ≡ m = omega arith in
+    rw e at (months startBy (λ k. marchDays (k + 1)) tt m a b)
+
+-- in the year from March, January and February come after the ten others; in the calendar's before them
+month-sum : (l : Bool) (m : ℕ) → 1 ≤ m → m ≤ 12
+    → marchDays m + pick (ltb m 3) 0 (59 + extra l) ≡ sumFrom (monthLength l) 0 (m - 1) + pick (ltb m 3) toJanuary 0
+month-sum l m a b = let e : m - 1 + 1 ≡ m = omega arith in rw e at (months (before l) (behind l) (tested l) m a b)
+  where
+    before : Bool → ℕ → ℕ
+    before l m = marchDays m + pick (ltb m 3) 0 (59 + extra l)
+
+    behind : Bool → ℕ → ℕ
+    behind l k = sumFrom (monthLength l) 0 k + pick (ltb (k + 1) 3) toJanuary 0
+
+    tested : (l : Bool) → T (every (λ k x. eqb (before l (k + 1)) (behind l k)) 0 (replicate 12 0))
+    tested true = unfold marchDays monthLength sumFrom in tt
+    tested false = unfold marchDays monthLength sumFrom in tt
+
+pub by-march : (d : Day) → Parts d
+    → sumFrom yearLength 0 (marchYear (d .year) (d .month)) + marchDays (d .month) + d .day ≡ dayNumber d + (toJanuary + 1)
+unfolding dayNumber marchYear
+by-march d p =
+    let l = leap (d .year) in
+    let m = d .month in
+    let s : marchDays m + pick (ltb m 3) 0 (59 + extra l) ≡ sumFrom (monthLength l) 0 (m - 1) + pick (ltb m 3) toJanuary 0 = month-sum l m (p .month-low) (p .month-high) in
+    let y : d .year - 1 + 1 ≡ d .year = omega (arith, p .year-low) in
+    let z : suc (d .year - 1) ≡ d .year = omega (arith, p .year-low) in
+    let n : sumFrom yearLength 0 (d .year) ≡ sumFrom yearLength 0 (d .year - 1) + 365 + extra l = rw (z, y) at (next-year (d .year - 1)) in
+    ⊎-elim (λ t. rw (lt-ltb m 3 t) (omega (arith, (rw (lt-ltb m 3 t) at s), p .day-low))) (λ t. rw (le-ltb m 3 t) (omega (arith, (rw (le-ltb m 3 t) at s), n, p .day-low))) (lt-or-le m 3)
+
+-- ---- the date of day r of a year from March, by one line for month and day
+
+abbrev pub lineAt : ℕ → ℕ
+lineAt r = 2141 * r + 197913
+
+abbrev pub monthAt : ℕ → ℕ
+monthAt r = lineAt r / 65536
+
+abbrev pub dayAt : ℕ → ℕ
+dayAt r = lineAt r % 65536 / 2141 + 1
+
+-- day r is in month m, in a leap year (l) or a common one
+record Lies (l : Bool) (r m : ℕ) : Type 0 where
+  low : 1 ≤ m
+  short : dayAt r ≤ monthLength l (m - 1)
+  total : marchDays m + dayAt r ≡ r + 1
+
+abbrev lies : Bool → ℕ → ℕ → Bool
+lies l r m = both (leb 1 m) (both (leb (dayAt r) (monthLength l (m - 1))) (eqb (marchDays m + dayAt r) (r + 1)))
 
 tested : (t : Bool) → T t → t ≡ true
 tested true h = refl
 tested false h = absurd h
 
--- so of each day, in a leap year and in a common one
-every-day : (l : Bool) (d : ℕ) → d < sumFrom (monthLength l) 0 12 → fits l d ≡ true
-unfolding monthLength sumFrom place
-every-day true d h = tested _ (below (fits true) 366 tt d h)
-every-day false d h = tested _ (below (fits false) 365 tt d h)
+lies-in : (l : Bool) (r m : ℕ) → lies l r m ≡ true → Lies l r m
+lies-in l r m e =
+    let a = both-true _ _ e in
+    let b = both-true _ _ (a .1) in
+    record { low = leb-true _ _ (a .0); short = leb-true _ _ (b .0); total = eqb-true _ _ (b .1) }
 
-pub record Month (l : Bool) (d m : ℕ) : Type 0 where
-  pub low : 1 ≤ m
-  pub high : m ≤ 12
-  pub before : startOf m ≤ shiftedBy l d
-  pub place-of : _≡_ {A = Place} (record { index = m - 1; rest = shiftedBy l d - startOf m }) (place (monthLength l) 11 0 d)
+-- from March to December it is in the calendar's year of the same number
+abbrev lateTest : Bool → ℕ → Bool
+lateTest l r = both (leb 3 (monthAt r)) (lies l r (monthAt r))
 
-pub month-of : (l : Bool) (d : ℕ) → d < sumFrom (monthLength l) 0 12 → Month l d (monthOf (shiftedBy l d))
-month-of l d h =
-    let f = both-true _ _ (every-day l d h) in
-    let m = both-true _ _ (f .0) in
-    let p = both-true _ _ (f .1) in
-    let q = both-true _ _ (p .1) in
-    record {
-      low = leb-true _ _ (m .0);
-      high = leb-true _ _ (m .1);
-      before = leb-true _ _ (p .0);
-      place-of = parts-place _ _ _ (eqb-true _ _ (q .0)) (eqb-true _ _ (q .1));
-    }
+late-test : (l : Bool) (r : ℕ) → r < toJanuary → lateTest l r ≡ true
+unfolding marchDays monthLength sumFrom
+late-test true r h = tested _ (below (lateTest true) 306 tt r h)
+late-test false r h = tested _ (below (lateTest false) 306 tt r h)
 
--- no sum or difference on the way is out of range
-pub lack-fits : (l : Bool) (m : ℕ) → 1 ≤ m → lack l (ltb m 3) ≤ startOf m
-lack-fits l m h =
-    ⊎-elim (λ t. rw (lt-ltb m 3 t) (omega arith)) (λ t. omega (arith, lack-small l (ltb m 3))) (lt-or-le m 3)
+-- in January and February in the next; the last day is there in a leap year only
+abbrev earlyTest : Bool → ℕ → Bool
+earlyTest l k = both (both (leb 13 (monthAt (306 + k))) (leb (monthAt (306 + k)) 14)) (lies l (306 + k) (monthAt (306 + k) - 12))
+
+early-test : (l : Bool) (k : ℕ) → k < 59 + extra l → earlyTest l k ≡ true
+unfolding marchDays monthLength sumFrom
+early-test true k h = tested _ (below (earlyTest true) 60 tt k h)
+early-test false k h = tested _ (below (earlyTest false) 59 tt k h)
+
+-- so the date has the day number, and is the one that has it
+found : (n y r : ℕ) (d : Day) → 1 ≤ d .year → d .year ≤ lastYear → d .day ≡ dayAt r → Lies (leap (d .year)) r (d .month) → marchYear (d .year) (d .month) ≡ y
+    → sumFrom yearLength 0 y + r ≡ n + toJanuary → d ≡ dayOf n
+found n y r d a b t f e s =
+    let i : isDay d ≡ true = is-date d a b (f .low) (omega (arith, t)) (omega (arith, t, f .short)) in
+    let m = rw e at (by-march d (parts d i)) in
+    let k : dayNumber d ≡ n = omega (arith, t, m, f .total, s) in
+    sym (date-number d i) ∙ ap dayOf k
+
+-- the two at the code's numbers
+module _ (n y r : ℕ) (s : sumFrom yearLength 0 y + r ≡ n + toJanuary) (h : n ≤ lastNumber) (w : r < yearLength y) where
+  pub late-date : r < toJanuary → _≡_ {A = Day} (record { year = y; month = monthAt r; day = dayAt r }) (dayOf n)
+  unfolding marchYear
+  late-date t =
+      let a = both-true _ _ (late-test (leap y) r t) in
+      found n y r _ (omega (arith, years y, s)) (omega (arith, years y, s)) refl (lies-in _ _ _ (a .1))
+      (rw (le-ltb (monthAt r) 3 (leb-true _ _ (a .0)))) s
+
+  pub early-date : toJanuary ≤ r → _≡_ {A = Day} (record { year = y + 1; month = monthAt r - 12; day = dayAt r }) (dayOf n)
+  unfolding marchYear
+  early-date t =
+      let e : 306 + (r - 306) ≡ r = omega arith in
+      let z : earlyTest (leap (y + 1)) (r - 306) ≡ true = early-test (leap (y + 1)) (r - 306) (omega (arith, long y)) in
+      let a = both-true (both (leb 13 (monthAt r)) (leb (monthAt r) 14)) (lies (leap (y + 1)) r (monthAt r - 12)) (rw e at z) in
+      let b = both-true (leb 13 (monthAt r)) (leb (monthAt r) 14) (a .0) in
+      found n y r _ (omega arith) (omega (arith, years y, s)) refl (lies-in _ _ _ (a .1))
+      (rw (lt-ltb (monthAt r - 12) 3 (omega (arith, leb-true (monthAt r) 14 (b .1)))) (omega arith)) s

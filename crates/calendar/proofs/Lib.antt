@@ -1,3 +1,3 @@
 pub mod Formulas
-pub mod Cycle
+pub mod March
 pub mod OneAnswer

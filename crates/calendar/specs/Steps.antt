@@ -1,35 +1,29 @@
 -- What the private functions promise one another: the legend.
 --
---   placeFrom e      what lies before a day, as a `Place` among the years: the year, from 0, and how many days in
---   Guessed r g      g is a guess at the year, from 0, of day r of the 400 years: that year, or the one before
---   lack l early     how many days February lacks of 30, in a leap year (l) or a common one; none of them counts before March (early)
---   startOf m        the days before month m, with a February of 30 days; months are numbered from 1
---   shiftedBy l d    day d of the year, from 0, as it is numbered with that February
---   monthOf s        the month of a day so numbered
-use Prim.Native.Nat.{ℕ, _+_, _-_, _*_, _/_, _<_, _≤_}
-use mathlib.Core.Bool.{Bool}
+-- Inside, years are counted from March, so that the leap day is the last of its year. Year 0 from March began on 0000-03-01, and year k has as many days
+-- as the calendar's year k + 1: so `sumFrom yearLength 0 k` is both the days before year k from March and those before the calendar's year k + 1.
+--
+--   toJanuary        the days from 1 March to the 1 January after it
+--   marchYear y m    in which year from March month m of year y lies; months are numbered from 1
+--   marchDays m      the days of the year from March before month m
+--   dayCount e       what lies before a day, years and days, in days
+use Prim.Native.Nat.{ℕ, _+_, _-_}
+use mathlib.Core.Bool.{false}
 use lib.Dec.{ltb}
 use Rattle.format.specs.Words.{pick}
-use Rattle.format.specs.Walk.{sumFrom, Place}
-use Rattle.format.specs.Calendar.{yearStart, monthLength}
-use Rattle.calendar.specs.declared.Elapsed.{Elapsed}
+use Rattle.format.specs.Walk.{sumFrom}
+use Rattle.format.specs.Calendar.{yearLength, monthLength}
+use Rattle.calendar.specs.declared.years.Elapsed.{Elapsed}
 
-abbrev pub placeFrom : Elapsed → Place
-placeFrom e = record { index = e .years; rest = e .days }
+abbrev pub toJanuary : ℕ
+toJanuary = 306
 
-pub record Guessed (r g : ℕ) : Type 0 where
-  pub within : g < 400
-  pub low : yearStart g ≤ r
-  pub high : g < 398 → r < yearStart (g + 2)
+unfoldable pub marchYear : ℕ → ℕ → ℕ
+marchYear y m = pick (ltb m 3) (y - 1) y
 
-abbrev pub lack : Bool → Bool → ℕ
-lack l early = pick early 0 (pick l 1 2)
+-- no month but February tells whether the year is a leap year, and none has a February before it
+unfoldable pub marchDays : ℕ → ℕ
+marchDays m = pick (ltb m 3) (toJanuary + sumFrom (monthLength false) 0 (m - 1)) (sumFrom (monthLength false) 2 (m - 3))
 
-abbrev pub startOf : ℕ → ℕ
-startOf m = (367 * m - 362) / 12
-
-abbrev pub shiftedBy : Bool → ℕ → ℕ
-shiftedBy l d = d + lack l (ltb d (sumFrom (monthLength l) 0 2))
-
-abbrev pub monthOf : ℕ → ℕ
-monthOf s = (12 * s + 373) / 367
+abbrev pub dayCount : Elapsed → ℕ
+dayCount e = sumFrom yearLength 0 (e .years) + e .days

@@ -1,17 +1,17 @@
 // The proleptic Gregorian calendar of the years 1 to 9999: a date's day number, and the date of a day number.
-// There is no loop: the years go by a table of the 400 year starts of a cycle, the months by a formula.
+// There is no loop and no table: sums and quotients only.
 ghost use mathlib.Core.Path.{_≡_};
 ghost use mathlib.Core.Bool.{true};
 ghost use Prim.Native.Nat.{_+_, _-_, _<_, _≤_};
-ghost use Rattle.format.specs.Words.{pick};
-ghost use Rattle.format.specs.Walk.{sumFrom, place};
-ghost use Rattle.format.specs.Calendar.{lastYear, lastNumber, leap, yearLength, isDay, dayNumber, dayIn};
+ghost use Rattle.format.specs.Calendar.{lastNumber, leap, yearLength, isDay, dayNumber, dayOf};
 ghost use Rattle.calendar.specs.Meaning.{dayFrom};
-ghost use Rattle.calendar.specs.Steps.{placeFrom, Guessed};
+ghost use Rattle.calendar.specs.Steps.{toJanuary, dayCount};
 ghost use Rattle.calendar.specs.Calls.{DateNew, DateInRange, DayNumber, DateOf, YearStart};
 
 mod months;
-mod year_starts;
+mod years;
+
+use crate::years::Elapsed;
 
 // Any three numbers: whoever writes a date refuses the wrong ones.
 pub struct Date {
@@ -32,17 +32,8 @@ pub enum Dated {
     NoSuchNumber,
 }
 
-// What lies before a day: whole years, and days of its own year; and whether that one is a leap year.
-struct Elapsed {
-    years: u32,
-    days: u32,
-    leap: bool,
-}
-
-// The leap years repeat after 400 years: so the table has 400 entries.
+// The leap years repeat after so many.
 const CYCLE_YEARS: u32 = 400;
-
-const CYCLE_DAYS: u32 = 146_097;
 
 impl Date {
     pub const LAST_YEAR: u32 = 9_999;
@@ -94,28 +85,15 @@ fn is_leap(year: u32) -> bool
     year % 4 == 0
 }
 
-fn year_length(leap: bool) -> u32
-    ensures { λ r. ⌜ r ≡ pick leap 366 365 ⌝ }
-{
-    if leap { 366 } else { 365 }
-}
-
-// Whole cycles, and the table's entry for the years of the last one.
-fn days_before_years(years: u32) -> u32
-    requires { ⌜ years < lastYear ⌝ }
-    ensures { λ r. ⌜ r ≡ sumFrom yearLength 0 years ⌝ }
-{
-    years / CYCLE_YEARS * CYCLE_DAYS + year_starts::entry(years % CYCLE_YEARS)
-}
-
-// The days before that many years of a cycle, whole cycles left out: the table alone, so that what the array costs can be measured by itself.
+// The days before that many years of a cycle, whole cycles left out.
 pub fn year_start(years: u32) -> u32
     ensures { λ r. ⌜ YearStart years r ⌝ }
 {
-    year_starts::entry(years % CYCLE_YEARS)
+    let years = years % CYCLE_YEARS;
+    years::start(years, years / 100)
 }
 
-// The day number, where there is such a day.
+// The day number, where there is such a day: the days of the years from March before it, of the months from March, and of its month.
 fn number_of(date: Date) -> u32
     requires { ⌜ isDay (dayFrom date) ≡ true ⌝ }
     ensures { λ r. ⌜ r ≡ dayNumber (dayFrom date) ⌝ }
@@ -123,7 +101,8 @@ fn number_of(date: Date) -> u32
     let year = date.year;
     let month = date.month;
     let day = date.day;
-    days_before_years(year - 1) + months::days_before_month(is_leap(year), month) + (day - 1)
+    years::days_before(years::of_month(year, month)) + months::days_before(month) + day
+        - (years::TO_JANUARY + 1)
 }
 
 // One test, of the whole date, and then sums only.
@@ -136,49 +115,28 @@ pub fn day_number(date: Date) -> Numbered
     Numbered::NoSuchDay
 }
 
-// The years of the cycle before its day `rest`, or one too few: a year's share of the cycle's days is less than a day before its start, and less than
-// two behind it.
-fn guess(rest: u32) -> u32
-    requires { do ⌜ rest < (← ⟦CYCLE_DAYS⟧) ⌝ }
-    ensures { λ r. ⌜ Guessed rest r ⌝ }
-{
-    rest * CYCLE_YEARS / CYCLE_DAYS
-}
-
-// The table is read once: where the guess is one too few, the next year starts by this one's length later.
-fn elapsed_at(number: u32) -> Elapsed
-    requires { ⌜ number ≤ lastNumber ⌝ }
-    ensures { λ r. ⌜ (placeFrom r ≡ place yearLength 9998 0 number) × (r .leap ≡ leap (r .years + 1)) ⌝ }
-{
-    let rest = number % CYCLE_DAYS;
-    let guessed = guess(rest);
-    let years = number / CYCLE_DAYS * CYCLE_YEARS + guessed;
-    let leap = is_leap(years + 1);
-    let days = rest - year_starts::entry(guessed);
-    let length = year_length(leap);
-    if days < length {
-        return Elapsed { years, days, leap };
-    }
-    let next = years + 1;
-    Elapsed {
-        years: next,
-        days: days - length,
-        leap: is_leap(next + 1),
-    }
-}
-
-// The date of the day that comes after that many years and days.
+// The date of the day that comes after that many years and days. Month and day lie on one line, of which a day is 2,141 and a month 65,536: March is 3,
+// and January and February, which the calendar gives to its next year, are 13 and 14.
 fn date_after(past: Elapsed) -> Date
-    requires { ⌜ (past .years < lastYear) × (past .days < yearLength (past .years)) × (past .leap ≡ leap (past .years + 1)) ⌝ }
-    ensures { λ r. ⌜ dayFrom r ≡ dayIn (placeFrom past) ⌝ }
+    requires { ⌜ (past .days < yearLength (past .years)) × (toJanuary ≤ dayCount past) × (dayCount past ≤ lastNumber + toJanuary) ⌝ }
+    ensures { λ r. ⌜ dayFrom r ≡ dayOf (dayCount past - toJanuary) ⌝ }
 {
-    let year = past.years + 1;
-    let day = months::shifted(past.leap, past.days);
-    let month = months::month_of(day);
+    let years = past.years;
+    let days = past.days;
+    let line = 2_141 * days + 197_913;
+    let month = line / 65_536;
+    let day = line % 65_536 / 2_141 + 1;
+    if days < years::TO_JANUARY {
+        return Date {
+            year: years,
+            month,
+            day,
+        };
+    }
     Date {
-        year,
-        month,
-        day: day - months::start_of(month) + 1,
+        year: years + 1,
+        month: month - 12,
+        day,
     }
 }
 
@@ -189,5 +147,5 @@ pub fn date_of(number: u32) -> Dated
     if Date::LAST_NUMBER < number {
         return Dated::NoSuchNumber;
     }
-    Dated::Date(date_after(elapsed_at(number)))
+    Dated::Date(date_after(years::elapsed_at(number + years::TO_JANUARY)))
 }

@@ -38,12 +38,6 @@ months-year k = by (leap (k + 1))
     by true = unfold sumFrom monthLength in refl
     by false = unfold sumFrom monthLength in refl
 
--- and no year has more than 366 days
-pub year-short : (l : Bool) → sumFrom (monthLength l) 0 12 ≤ 366
-unfolding monthLength sumFrom
-year-short true = omega arith
-year-short false = omega arith
-
 -- what `isDay` says, part by part
 pub record Parts (d : Day) : Type 0 where
   pub year-low : 1 ≤ d .year

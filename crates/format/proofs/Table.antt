@@ -1,11 +1,11 @@
--- A rule of a table, proved at all of its entries by one test that antt computes, one entry after the other.
+-- What holds at each entry of a list, or at each number below a limit, by one test that antt computes, one entry after the other.
 -- Assumes nothing.
-use mathlib.Core.Path.{_≡_, _∙_, subst, sym}
+use mathlib.Core.Path.{_∙_, subst, sym}
 use mathlib.Core.Bool.{Bool, true, false}
 use mathlib.Core.List.{List, [], _∷_}
 use Prim.Native.Nat.{ℕ, zero, suc, _+_, _<_}
 use native.Mathlib.Nat.{add-zero, zero-add, add-suc, suc-add, le-of-suc-le-suc, not-suc-le-zero}
-use lib.Dec.{T, eqb, eqb→eq}
+use lib.Dec.{T}
 use Rattle.format.specs.Words.{both}
 use lib.ListN.{length, getD, replicate, length-replicate}
 
@@ -31,10 +31,6 @@ from f (x ∷ xs) i t (suc k) h =
 
 pub at : (f : ℕ → ℕ → Bool) (xs : List ℕ) → T (every f 0 xs) → (k : ℕ) → k < length xs → T (f k (getD xs k 0))
 at f xs t k h = subst (λ (m : ℕ). T (f m (getD xs k 0))) (zero-add k) (from f xs 0 t k h)
-
--- a table's rule: entry k is g k, tested at each entry
-pub rule : (g : ℕ → ℕ) (xs : List ℕ) → T (every (λ k x. eqb x (g k)) 0 xs) → (k : ℕ) → k < length xs → getD xs k 0 ≡ g k
-rule g xs t k h = eqb→eq (getD xs k 0) (g k) (at (λ k x. eqb x (g k)) xs t k h)
 
 -- a test at all numbers below n
 pub below : (f : ℕ → Bool) (n : ℕ) → T (every (λ k x. f k) 0 (replicate n 0)) → (k : ℕ) → k < n → T (f k)

@@ -3,7 +3,6 @@ use mathlib.Core.Path.{_≡_, refl, _∙_}
 use mathlib.Core.Logic.{⊎-elim}
 use Prim.Native.Nat.{ℕ, zero, suc, _+_, _-_, _<_, _≤_, zero-le}
 use native.Mathlib.Nat.{add-zero, zero-add, not-suc-le-zero}
-use native.Mathlib.Numerals.{add-one}
 use native.Mathlib.Omega.{arith}
 use borrow.Author.Tests.{lt-ltb, le-ltb}
 use Rattle.format.proofs.Cases.{lt-or-le}
@@ -82,14 +81,6 @@ sum-last len k (suc j) =
 pub place-at : (len : ℕ → ℕ) (f j r : ℕ) → j ≤ f → r < len j → place len f 0 (sumFrom len 0 j + r) ≡ record { index = j; rest = r }
 place-at len f j r h lt = rw (zero-add j) at (place-of len f 0 j r h (rw zero-add lt))
 
--- the place of a number that lies between two sums
-pub place-between : (len : ℕ → ℕ) (f n k : ℕ) → k ≤ f → sumFrom len 0 k ≤ n → n < sumFrom len 0 (k + 1)
-    → place len f 0 n ≡ record { index = k; rest = n - sumFrom len 0 k }
-place-between len f n k w lo hi =
-    let e : sumFrom len 0 (k + 1) ≡ sumFrom len 0 k + len k = rw (add-one, sum-last, zero-add) in
-    let s : sumFrom len 0 k + (n - sumFrom len 0 k) ≡ n = omega arith in
-    rw s at (place-at len f k (n - sumFrom len 0 k) w (omega arith))
-
 -- and its sum, from the first stretch on
 pub record Placed (len : ℕ → ℕ) (f n : ℕ) : Type 0 where
   pub within : place len f 0 n .index ≤ f
@@ -111,21 +102,3 @@ unfolding sumFrom
 sum-mono len i zero k h = zero-le
 sum-mono len i (suc j) zero h = absurd (not-suc-le-zero h)
 sum-mono len i (suc j) (suc k) h = omega (arith, sum-mono len (suc i) j k (omega arith))
-
--- a walk's index k, and the sum s before it: what code that looks both up has to know
-pub record Taken (len : ℕ → ℕ) (f n k s : ℕ) : Type 0 where
-  pub within : k ≤ f
-  pub before : s ≤ n
-  pub rest : n - s ≡ place len f 0 n .rest
-  pub short : n - s < len k
-
-pub taken : (len : ℕ → ℕ) (f n k s : ℕ) → n < sumFrom len 0 (suc f) → k ≡ place len f 0 n .index → s ≡ sumFrom len 0 k → Taken len f n k s
-taken len f n k s h ek es =
-    let p = placed len f n h in
-    let t : s + place len f 0 n .rest ≡ n = rw (es, ek) (p .total) in
-    let r : n - s ≡ place len f 0 n .rest = omega arith in
-    record { within = rw ek (p .within); before = omega arith; rest = r; short = rw (r, ek) (p .short) }
-
--- a place from its two parts
-pub parts-place : (p : Place) (k r : ℕ) → k ≡ p .index → r ≡ p .rest → _≡_ {A = Place} (record { index = k; rest = r }) p
-parts-place p k r a b = rw (a, b)

@@ -94,7 +94,7 @@ years-cycle q j =
     cycled : (s q j a b d : ℕ) → s + (4 * q + b) ≡ 365 * (q * 400 + j) + (100 * q + a) + (q + d) → s + b ≡ q * 146097 + 365 * j + a + d
     cycled s q j a b d e = omega arith
 
--- what the table gives: the cycles before, and the entry of the year in its cycle
+-- the same by 01's formula: the cycles before, and the start of the year in its cycle
 pub years-entry : (q j : ℕ) → j < 400 → sumFrom yearLength 0 (q * 400 + j) ≡ q * 146097 + yearStart j
 unfolding yearStart
 years-entry q j h =
@@ -104,11 +104,6 @@ years-entry q j h =
   where
     split : (s q i a b : ℕ) → s + b ≡ q * 146097 + 365 * i + a + 0 → b ≤ i → s ≡ q * 146097 + (365 * i + a - b)
     split s q i a b h l = omega arith
-
-pub years-table : (k : ℕ) → sumFrom yearLength 0 k ≡ k / 400 * 146097 + yearStart (k % 400)
-years-table k =
-    let e : k / 400 * 400 + k % 400 ≡ k = omega arith in
-    rw e at (years-entry (k / 400) (k % 400) (omega arith))
 
 pub days : sumFrom yearLength 0 9999 ≡ 3652059
 days = omega (arith, years 9999)

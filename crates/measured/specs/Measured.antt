@@ -1,4 +1,4 @@
--- The calendar's calls as C functions: what they promise. (`measured_year_start` promises what `calendar::year_start` does.)
+-- The calendar's calls as C functions: what they promise.
 --
 --   numberOr o          the day number that was asked for; -1 where there is no such day
 --   yyyymmdd d          a day as one number, its digits in turn: 20200508 for 2020-05-08

@@ -3,7 +3,6 @@ ghost use mathlib.Core.Path.{_≡_};
 ghost use mathlib.Core.Bool.{true};
 ghost use Rattle.format.specs.Calendar.{isDay};
 ghost use Rattle.calendar.specs.Meaning.{dayFrom};
-ghost use Rattle.calendar.specs.Calls.{YearStart};
 ghost use Rattle.measured.specs.Measured.{yyyymmdd, NumberForC, DateForC};
 use calendar::Date;
 use calendar::Dated;
@@ -40,12 +39,4 @@ pub extern "C" fn measured_date_of(number: u32) -> u32
         Dated::Date(date) => yyyymmdd(date),
         Dated::NoSuchNumber => 0,
     }
-}
-
-// The array alone.
-#[no_mangle]
-pub extern "C" fn measured_year_start(years: u32) -> u32
-    ensures { λ r. ⌜ YearStart years r ⌝ }
-{
-    calendar::year_start(years)
 }

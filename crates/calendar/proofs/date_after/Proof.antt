@@ -1,54 +1,41 @@
--- `calendar::date_after` meets its contract: the month is the walk's place among the months, and what is left is the day. Assumes nothing.
+-- `calendar::date_after` meets its contract: the month and its day by the line, in the year that has the day number. Assumes nothing.
 use mathlib.Core.Path.{_≡_}
-use Prim.Native.Nat.{_+_, _-_, _<_}
+use Prim.Native.Nat.{_+_, _-_, _≤_}
 use native.Mathlib.Omega.{arith}
-use lib.Dec.{ltb}
-use Rattle.format.specs.Walk.{sumFrom}
-use Rattle.format.specs.Calendar.{monthLength}
-use Rattle.format.proofs.Dates.{months-year, year-short}
-use Rattle.calendar.proofs.Formulas.{Month, month-of, lack-small}
+use Rattle.format.proofs.Years.{years}
+use Rattle.calendar.specs.Steps.{toJanuary, dayCount}
+use Rattle.calendar.proofs.March.{short-year}
+use Rattle.calendar.proofs.Formulas.{late-date, early-date}
 use borrow.Author.Needs.{needs}
 use Rattle.calendar.proofs.date_after.Statement.{statement}
 use Rattle.calendar.proofs.date_after.Tie as tie
 
-in-year : (c : tie.Start) → c .args .past .days < sumFrom (monthLength (c .args .past .leap)) 0 12
-in-year c = rw (c .pre .2, months-year (c .args .past .years)) (c .pre .1)
+few : (c : tie.Start) → c .args .past .days ≤ 365
+few c = omega (arith, short-year (c .args .past .years), c .pre .0)
 
-add-year : tie.Need-add-year
-add-year c = search needs
+total : (c : tie.Start) → dayCount (c .args .past) ≡ dayCount (c .args .past) - toJanuary + toJanuary
+total c = omega (arith, c .pre .1)
 
-shifted-requires : tie.Need-shifted-requires
-shifted-requires c κs = in-year (c .before)
+mul-line : tie.Need-mul-line
+mul-line c = omega (arith, few c)
 
-month-of-requires : tie.Need-month-of-requires
-month-of-requires c κs =
-    let s = c .before .before in
-    let p = s .args .past in
-    rw (c .shifted .ensures) (omega (arith, in-year s, year-short (p .leap), lack-small (p .leap) (ltb (p .days) (sumFrom (monthLength (p .leap)) 0 2))))
+add-line : tie.Need-add-line
+add-line c = omega (arith, few c)
 
--- the month is that of the day
-month : (c : tie.After-month-of) → Month (c .before .before .before .args .past .leap) (c .before .before .before .args .past .days) (c .month-of .result)
-month c = rw (c .month-of .ensures, c .before .shifted .ensures) (month-of _ _ (in-year (c .before .before .before)))
-
-start-of-requires : tie.Need-start-of-requires
-start-of-requires c κs = (month c .low, month c .high)
-
-sub-t6 : tie.Need-sub-t6
-sub-t6 c = rw (c .start-of .ensures, c .before .before .shifted .ensures) (month (c .before) .before)
-
-add-t7 : tie.Need-add-t7
-add-t7 c =
-    let s = c .before .before .before .before in
-    let p = s .args .past in
-    rw (c .before .before .shifted .ensures) (omega (arith, in-year s, year-short (p .leap), lack-small (p .leap) (ltb (p .days) (sumFrom (monthLength (p .leap)) 0 2))))
+add-day : tie.Need-add-day
+add-day c = search needs
 
 returns : tie.Need-returns
-returns c =
-    let s = c .before .before .before .before in
-    let m = month (c .before) in
-    let e : c .before .month-of .result - 1 + 1 ≡ c .before .month-of .result = omega (arith, m .low) in
-    rw (← s .pre .2, ← m .place-of, e, c .start-of .ensures, c .before .before .shifted .ensures)
+returns c = late-date _ _ _ (total (c .before)) (omega (arith, c .before .pre .2)) (c .before .pre .0) (c .if1 .taken)
+
+add-t7 : tie.Need-add-t7
+add-t7 c = omega (arith, years (c .before .args .past .years), c .before .pre .2)
+
+sub-t8 : tie.Need-sub-t8
+sub-t8 c = search needs
+
+returns-2 : tie.Need-returns-2
+returns-2 c = early-date _ _ _ (total (c .before)) (omega (arith, c .before .pre .2)) (c .before .pre .0) (c .if1 .left)
 
 pub date-after-spec : {M : Type 1} → statement M
-date-after-spec =
-    tie.close (tie.spec add-year shifted-requires month-of-requires start-of-requires sub-t6 add-t7 returns)
+date-after-spec = tie.close (tie.spec mul-line add-line add-day returns add-t7 sub-t8 returns-2)
