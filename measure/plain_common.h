@@ -88,8 +88,8 @@ INLINE bool is_day(uint32_t year, uint32_t month, uint32_t day)
     return day - 1 < 28 || day - 1 < month_length(year, month);
 }
 
-/* For a day that exists. Years run from March, so that the leap day is their last. A product with a rounded constant is
- * a hundredth of a year below 43,699, and its quarter costs a shift only, where two divisions would cost two products. */
+/* For a day that exists. Years run from March, so that the leap day is their last. The century is
+ * a product with a rounded constant, right below the year 43,699; its quarter is one more shift, and no second division. */
 INLINE uint32_t day_number(uint32_t year, uint32_t month, uint32_t day)
 {
     static const uint16_t days_before_month[] = { 0, 306, 337, 0, 31, 61, 92, 122, 153, 184, 214, 245, 275 };

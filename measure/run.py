@@ -1,6 +1,6 @@
 #!/usr/bin/env python3
 """Runs the driver of `make measure` in several processes, and writes the table of medians to docs/MEASURE.md: the section of this machine, while
-those of other machines stay as they were measured there.
+those of other machines stay as they were measured there, unless their columns are an older measure's.
 
 usage: run.py PROGRAM [PROCESSES]"""
 import os
@@ -63,7 +63,7 @@ def processor():
 
 HEAD = '''# Measure
 
-Our calls beside a plain C version of the same work (`measure/plain_*.c`). `make measure` writes this page, a section for each machine that it was run on, with the commit that was measured; a section that names no commit is older than this sentence. Nothing in it is written by hand.
+Our calls beside a plain C version of the same work (`measure/plain_*.c`). `make measure` writes this page, a section for each machine that it was run on, with the commit that was measured. Nothing in it is written by hand.
 '''
 
 

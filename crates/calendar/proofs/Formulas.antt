@@ -21,20 +21,20 @@ use Rattle.calendar.proofs.March.{extra, long, next-year}
 -- ---- how long a month is
 
 -- month m from 1
-abbrev pub lengthBy : Bool → ℕ → ℕ
+abbrev lengthBy : Bool → ℕ → ℕ
 lengthBy l m = pick (eqb m 2) (pick l 29 28) (30 + (m + m / 8) % 2)
 
 -- what holds of the month after each k below 12 holds of each month
-months : (g h : ℕ → ℕ) → T (every (λ k x. eqb (g (k + 1)) (h k)) 0 (replicate 12 0)) → (m : ℕ) → 1 ≤ m → m ≤ 12 → g m ≡ h (m - 1)
+months : (g h : ℕ → ℕ) → T (every (λ k x. eqb (g (k + 1)) (h (k + 1))) 0 (replicate 12 0)) → (m : ℕ) → 1 ≤ m → m ≤ 12 → g m ≡ h m
 months g h t m a b =
     let e : m - 1 + 1 ≡ m = omega arith in
-    let k : g (m - 1 + 1) ≡ h (m - 1) = eqb→eq _ _ (below (λ k. eqb (g (k + 1)) (h k)) 12 t (m - 1) (omega arith)) in
+    let k : g (m - 1 + 1) ≡ h (m - 1 + 1) = eqb→eq _ _ (below (λ k. eqb (g (k + 1)) (h (k + 1))) 12 t (m - 1) (omega arith)) in
     rw e at k
 
 pub month-length : (l : Bool) (m : ℕ) → 1 ≤ m → m ≤ 12 → lengthBy l m ≡ monthLength l (m - 1)
 unfolding monthLength
-month-length true = months (lengthBy true) (monthLength true) tt
-month-length false = months (lengthBy false) (monthLength false) tt
+month-length true = months (lengthBy true) (λ m. monthLength true (m - 1)) tt
+month-length false = months (lengthBy false) (λ m. monthLength false (m - 1)) tt
 
 -- every month has 28 days
 pub month-long : (l : Bool) (m : ℕ) → 1 ≤ m → m ≤ 12 → 28 ≤ monthLength l (m - 1)
@@ -49,24 +49,14 @@ startBy m = pick (ltb m 3) ((979 * m + 8829) / 32) ((979 * m - 2919) / 32)
 
 pub month-start : (m : ℕ) → 1 ≤ m → m ≤ 12 → startBy m ≡ marchDays m
 unfolding marchDays monthLength sumFrom
-month-start m a b =
-    let e : m - 1 + 1 ≡ m = omega arith in
-    rw e at (months startBy (λ k. marchDays (k + 1)) tt m a b)
+month-start = months startBy marchDays tt
 
 -- in the year from March, January and February come after the ten others; in the calendar's before them
 month-sum : (l : Bool) (m : ℕ) → 1 ≤ m → m ≤ 12
     → marchDays m + pick (ltb m 3) 0 (59 + extra l) ≡ sumFrom (monthLength l) 0 (m - 1) + pick (ltb m 3) toJanuary 0
-month-sum l m a b = let e : m - 1 + 1 ≡ m = omega arith in rw e at (months (before l) (behind l) (tested l) m a b)
-  where
-    before : Bool → ℕ → ℕ
-    before l m = marchDays m + pick (ltb m 3) 0 (59 + extra l)
-
-    behind : Bool → ℕ → ℕ
-    behind l k = sumFrom (monthLength l) 0 k + pick (ltb (k + 1) 3) toJanuary 0
-
-    tested : (l : Bool) → T (every (λ k x. eqb (before l (k + 1)) (behind l k)) 0 (replicate 12 0))
-    tested true = unfold marchDays monthLength sumFrom in tt
-    tested false = unfold marchDays monthLength sumFrom in tt
+unfolding marchDays monthLength sumFrom
+month-sum true = months (λ m. marchDays m + pick (ltb m 3) 0 60) (λ m. sumFrom (monthLength true) 0 (m - 1) + pick (ltb m 3) toJanuary 0) tt
+month-sum false = months (λ m. marchDays m + pick (ltb m 3) 0 59) (λ m. sumFrom (monthLength false) 0 (m - 1) + pick (ltb m 3) toJanuary 0) tt
 
 pub by-march : (d : Day) → Parts d
     → sumFrom yearLength 0 (marchYear (d .year) (d .month)) + marchDays (d .month) + d .day ≡ dayNumber d + (toJanuary + 1)
@@ -82,13 +72,13 @@ by-march d p =
 
 -- ---- the date of day r of a year from March, by one line for month and day
 
-abbrev pub lineAt : ℕ → ℕ
+abbrev lineAt : ℕ → ℕ
 lineAt r = 2141 * r + 197913
 
-abbrev pub monthAt : ℕ → ℕ
+abbrev monthAt : ℕ → ℕ
 monthAt r = lineAt r / 65536
 
-abbrev pub dayAt : ℕ → ℕ
+abbrev dayAt : ℕ → ℕ
 dayAt r = lineAt r % 65536 / 2141 + 1
 
 -- day r is in month m, in a leap year (l) or a common one

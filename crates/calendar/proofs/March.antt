@@ -1,5 +1,5 @@
--- Years from March, as the code goes through them: their starts by 01's formula; and the year of a day, with the day in it, by two quotients, of which the
--- second is a product with a rounded constant. Assumes nothing.
+-- Years from March, as the code goes through them: their starts by 01's formula; and the year of a day, with the day in it, by the centuries before it and
+-- one product with a rounded constant. Assumes nothing.
 use mathlib.Core.Path.{_≡_, refl, sym, _∙_, ap}
 use mathlib.Core.Logic.{⊎-elim}
 use mathlib.Core.Bool.{Bool, true, false, false≢true}
@@ -113,7 +113,7 @@ in-year n c y r e =
     short true t z = omega (arith, e .most)
     short false t z = ⊎-elim (λ w. absurd (false≢true (sym t ∙ e .last w))) (λ w. omega (arith, e .most)) (eq-or-ne r 365)
 
--- both quotients of d by one product
+-- both quotients of d by one product: 1461 * 2939745 is 2^32 and 149, and 149 a year stay less than one 2939745 for 19,729 years
 product : (d y m : ℕ) → 4 * d + 3 ≡ 1461 * y + m → m < 1461 → y < 19000
     → ((d * 11758980 + 8819235) / 4294967296 ≡ y) × ((d * 11758980 + 8819235) % 4294967296 / 11758980 ≡ m / 4)
 product d y m e h w =

@@ -21,7 +21,7 @@ toJanuary = 306
 unfoldable pub marchYear : ℕ → ℕ → ℕ
 marchYear y m = pick (ltb m 3) (y - 1) y
 
--- no month but February tells whether the year is a leap year, and none has a February before it
+-- only the length of February depends on the year, and here it comes last
 unfoldable pub marchDays : ℕ → ℕ
 marchDays m = pick (ltb m 3) (toJanuary + sumFrom (monthLength false) 0 (m - 1)) (sumFrom (monthLength false) 2 (m - 3))
 

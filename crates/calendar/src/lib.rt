@@ -89,8 +89,7 @@ fn is_leap(year: u32) -> bool
 pub fn year_start(years: u32) -> u32
     ensures { λ r. ⌜ YearStart years r ⌝ }
 {
-    let years = years % CYCLE_YEARS;
-    years::start(years, years / 100)
+    years::start(years % CYCLE_YEARS)
 }
 
 // The day number, where there is such a day: the days of the years from March before it, of the months from March, and of its month.
@@ -105,7 +104,7 @@ fn number_of(date: Date) -> u32
         - (years::TO_JANUARY + 1)
 }
 
-// One test, of the whole date, and then sums only.
+// One test of the whole date; what then follows asks for no range.
 pub fn day_number(date: Date) -> Numbered
     ensures { λ r. ⌜ DayNumber date r ⌝ }
 {

@@ -15,29 +15,28 @@ pub(crate) struct Elapsed {
     pub(crate) days: u32,
 }
 
-// A year's start, by 01's formula: 365 i + i / 4 - i / 100. Who asks has the hundredth already, and hands it in: a division would cost most of all.
-pub(crate) fn start(years: u32, centuries: u32) -> u32
-    requires { ⌜ (years ≤ lastYear) × (centuries ≡ years / 100) ⌝ }
-    ensures { λ r. ⌜ r ≡ yearStart years ⌝ }
-{
-    365 * years + years / 4 - centuries
-}
-
-// A hundredth of the years, by a product: 5,243 / 524,288 is a hundredth and so little more that the years up to 9999 don't notice.
-fn centuries_of(years: u32) -> u32
+// years / 100, by a product: 5,243 / 524,288 is a hundredth, and so little more that years up to 9999 don't notice.
+fn hundredth(years: u32) -> u32
     requires { ⌜ years ≤ lastYear ⌝ }
     ensures { λ r. ⌜ r ≡ years / 100 ⌝ }
 {
     years * 5_243 / 524_288
 }
 
-// The days before so many years: the formula, and the day that it leaves out of every fourth century.
+// A year's start, by 01's formula: 365 i + i / 4 - i / 100.
+pub(crate) fn start(years: u32) -> u32
+    requires { ⌜ years ≤ lastYear ⌝ }
+    ensures { λ r. ⌜ r ≡ yearStart years ⌝ }
+{
+    365 * years + years / 4 - hundredth(years)
+}
+
+// The formula is for one cycle: it leaves out the leap day of every 400th year.
 pub(crate) fn days_before(years: u32) -> u32
     requires { ⌜ years ≤ lastYear ⌝ }
     ensures { λ r. ⌜ r ≡ sumFrom yearLength 0 years ⌝ }
 {
-    let centuries = centuries_of(years);
-    start(years, centuries) + centuries / 4
+    start(years) + hundredth(years) / 4
 }
 
 // The year from March in which a month lies.

@@ -1,4 +1,4 @@
--- `calendar::date_of` meets its contract: its one test is that of `dayAsked`, and the place among the years has the day number. Assumes nothing.
+-- `calendar::date_of` meets its contract: its one test is that of `dayAsked`, and the years and days before the day make up its number. Assumes nothing.
 use mathlib.Core.Path.{_≡_, ap}
 use Prim.Native.Nat.{_-_}
 use native.Mathlib.Omega.{arith}

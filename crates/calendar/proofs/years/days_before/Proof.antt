@@ -6,18 +6,18 @@ use borrow.Author.Needs.{needs}
 use Rattle.calendar.proofs.years.days_before.Statement.{statement}
 use Rattle.calendar.proofs.years.days_before.Tie as tie
 
-centuries-of-requires : tie.Need-centuries-of-requires
-centuries-of-requires c κs = search needs
-
 start-requires : tie.Need-start-requires
 start-requires c κs = search needs
 
+hundredth-requires : tie.Need-hundredth-requires
+hundredth-requires c κs = search needs
+
 add-result : tie.Need-add-result
 unfolding yearStart
-add-result c = omega (arith, c .start .ensures, c .before .centuries-of .ensures)
+add-result c = omega (arith, c .before .start .ensures, c .hundredth .ensures)
 
 returns : tie.Need-returns
-returns c = rw (c .start .ensures, c .before .centuries-of .ensures) (by-formula _)
+returns c = rw (c .before .start .ensures, c .hundredth .ensures) (by-formula _)
 
 pub days-before-spec : {M : Type 1} → statement M
-days-before-spec = tie.close (tie.spec centuries-of-requires start-requires add-result returns)
+days-before-spec = tie.close (tie.spec start-requires hundredth-requires add-result returns)
