@@ -62,15 +62,10 @@ record Split (L n c r : ℕ) : Type 0 where
   -- the day that four quarters make comes last, in the fourth stretch
   last : r ≡ L → c % 4 ≡ 3
 
-centuries : (n c m : ℕ) → 4 * n + 3 ≡ 146097 * c + m → m < 146097 → Split 36524 n c (m / 4)
-centuries n c m e h =
-    let w : n ≡ 36524 * c + c / 4 + m / 4 = omega arith in
-    record { whole = w; most = omega arith; last = λ t. (let a : m ≡ 146096 = omega arith in omega (arith, a, w)) }
-
-quarters : (n c m : ℕ) → 4 * n + 3 ≡ 1461 * c + m → m < 1461 → Split 365 n c (m / 4)
-quarters n c m e h =
-    let w : n ≡ 365 * c + c / 4 + m / 4 = omega arith in
-    record { whole = w; most = omega arith; last = λ t. (let a : m ≡ 1460 = omega arith in omega (arith, a, w)) }
+split : (L n c m : ℕ) → 4 * n + 3 ≡ 4 * (L * c) + c + m → m ≤ 4 * L → Split L n c (m / 4)
+split L n c m e h =
+    let w : n ≡ L * c + c / 4 + m / 4 = omega arith in
+    record { whole = w; most = omega arith; last = λ t. (let a : m ≡ 4 * L = omega arith in omega (arith, a, w)) }
 
 -- with a day more for each century but every fourth, a year from March is such a stretch: its day is the last one only in a leap year
 record Evened (n c y r : ℕ) : Type 0 where
@@ -132,6 +127,6 @@ elapsed n c e h t a b =
     let y = (4 * d + 3) / 1461 in
     let m = (4 * d + 3) % 1461 in
     let q = product d y m (omega arith) (omega arith) (omega arith) in
-    let f = centuries n c ((4 * n + 3) % 146097) (omega arith) (omega arith) in
-    let g = quarters d y m (omega arith) (omega arith) in
+    let f = split 36524 n c ((4 * n + 3) % 146097) (omega arith) (omega arith) in
+    let g = split 365 d y m (omega arith) (omega arith) in
     rw (a, b, q .0, q .1) (in-year n c y (m / 4) (evened n c _ y (m / 4) f g))
