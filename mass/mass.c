@@ -20,7 +20,7 @@
 
 #define DEFAULT_SEED 20200101
 #define DEFAULT_ROUNDS 20000000
-#define PARTS 13
+#define PARTS 14
 
 static void list_parts(part parts[PARTS], uint64_t rounds)
 {
@@ -41,6 +41,8 @@ static void list_parts(part parts[PARTS], uint64_t rounds)
         {"mutated", "stamps with up to three changes, to all nine readers", try_mutated, units, "025678"},
         {"octets", "octets by chance, to all nine readers", try_random_octets, units, "05678"},
         {"values", "values right and wrong, under any settings, into any room", try_random_values, units, "01234"},
+        {"choices", "texts with every octet at every place, behind the first bits of each form", try_choices, CHOICE_UNITS,
+         "05678"},
     };
     memcpy(parts, list, sizeof list);
 }

@@ -12,7 +12,8 @@
 #define TEXT_FIELD_UNITS 100
 #define MILLISECOND_UNITS 86401
 #define FRACTION_UNITS 1000
-#define CHANCE_ROUNDS 10000            /* rounds in a unit of the last three */
+#define CHOICE_UNITS 42
+#define CHANCE_ROUNDS 10000            /* rounds in a unit of those by chance */
 
 void try_short(uint64_t unit, chance *by);
 void try_dates(uint64_t unit, chance *by);
@@ -27,6 +28,7 @@ void try_moments_at_edges(uint64_t unit, chance *by);
 void try_mutated(uint64_t unit, chance *by);
 void try_random_octets(uint64_t unit, chance *by);
 void try_random_values(uint64_t unit, chance *by);
+void try_choices(uint64_t unit, chance *by);
 
 uint64_t number_edge_units(void);
 uint64_t moment_edge_units(void);

@@ -23,6 +23,7 @@ enum { LAST_NUMBER = 3652058, LAST_COMPACT_YEAR = 6428 };
 typedef struct {
     uint32_t kind;                      /* one of the nine: an either-or reader has samples of both its kinds */
     uint32_t form;
+    uint32_t digits;                    /* of a text */
 } stamps;
 
 typedef struct {
@@ -45,10 +46,10 @@ static uint64_t chance(uint64_t below)
     return state % below;
 }
 
-static stamp_settings settings_for(uint32_t form)
+static stamp_settings settings_for(const stamps *r)
 {
-    const uint32_t digits = form == STAMP_EXTENDED ? STAMP_MAX_DIGITS : STAMP_DEFAULT_DIGITS;
-    return stamp_make_settings(form != STAMP_TEXT, form == STAMP_EXTENDED ? STAMP_EXTENDED_FROM : 0, digits);
+    const bool extended = r->form == STAMP_EXTENDED;
+    return stamp_make_settings(r->form != STAMP_TEXT, extended ? STAMP_EXTENDED_FROM : 0, extended ? STAMP_MAX_DIGITS : r->digits);
 }
 
 /* No kind has an offset of zero here: compact, it would be written as the plain kind. */
@@ -63,7 +64,7 @@ static void fill(const stamps *r)
         const int32_t offset = (int32_t)(1 + chance(STAMP_MAX_OFFSET)) * (chance(2) ? 1 : -1);
         s->value = stamp_make_value(kind, year, month, day, micros, offset);
         s->number = (uint32_t)chance(LAST_NUMBER + 1);
-        if (stamp_encode(&s->value, settings_for(r->form), s->octets, sizeof s->octets, &s->length) != STAMP_ACCEPTED) {
+        if (stamp_encode(&s->value, settings_for(r), s->octets, sizeof s->octets, &s->length) != STAMP_ACCEPTED) {
             fprintf(stderr, "measure: a value was refused\n");
             exit(1);
         }
@@ -91,7 +92,7 @@ static uint32_t write_by(writer *write, const sample *s, stamp_settings t, uint8
 static inline void write_all(writer *write, const stamps *r)
 {
     uint8_t octets[STAMP_LONGEST_IMAGE] = {0};
-    const stamp_settings t = settings_for(r->form);
+    const stamp_settings t = settings_for(r);
     for (int i = 0; i < VALUES; i++) {
         size_t count;
         kept += write_by(write, &samples[i], t, octets, sizeof octets, &count);
@@ -106,7 +107,7 @@ static bool write_same(const stamps *r, const sample *s)
 {
     uint8_t octets[2][STAMP_LONGEST_IMAGE] = {{0}};
     size_t count[2];
-    const stamp_settings t = settings_for(r->form);
+    const stamp_settings t = settings_for(r);
     const uint32_t ours = write_by(stamp_write, s, t, octets[0], sizeof octets[0], &count[0]);
     const uint32_t plain = write_by(plain_write, s, t, octets[1], sizeof octets[1], &count[1]);
     return ours == STAMP_ACCEPTED && plain == STAMP_ACCEPTED && count[0] == count[1]
@@ -224,7 +225,7 @@ static bool timed(uint32_t kind) { return kind < STAMP_KINDS ? kind >= STAMP_TIM
 static void report_stamps(uint32_t kind, uint32_t form)
 {
     const work writing = {write_ours, write_plain, write_same}, reading = {read_ours, read_plain, read_same};
-    const stamps r = {kind, form};
+    const stamps r = {kind, form, STAMP_DEFAULT_DIGITS};
     char name[80];
     if (form == STAMP_EXTENDED && !timed(kind))
         return;
@@ -235,14 +236,26 @@ static void report_stamps(uint32_t kind, uint32_t form)
     report(name, reading, r);
 }
 
+/* As two sites write it: whether there is an offset shows in the length and the octet behind the seconds. */
+static void report_without_fraction(uint32_t kind)
+{
+    const work reading = {read_ours, read_plain, read_same};
+    const stamps r = {kind, STAMP_TEXT, 0};
+    char name[80];
+    snprintf(name, sizeof name, "read %s, text without fraction", reader_name(kind));
+    report(name, reading, r);
+}
+
 int main(void)
 {
     const work number = {number_ours, number_plain, number_same}, date = {date_ours, date_plain, date_same};
-    const stamps any = {STAMP_DATE, STAMP_TEXT};
+    const stamps any = {STAMP_DATE, STAMP_TEXT, STAMP_DEFAULT_DIGITS};
     printf("compiler\t%s, %s\nvalues\t%d\nturns\t%d\n", __VERSION__, LEVEL, VALUES, TURNS);
     for (uint32_t form = 0; form < STAMP_FORMS; form++)
         for (uint32_t kind = 0; kind < STAMP_READERS; kind++)
             report_stamps(kind, form);
+    report_without_fraction(STAMP_TIME_OR_TIMETZ);
+    report_without_fraction(STAMP_DATETIME_OR_DATETIMETZ);
     report("day number of a date", number, any);
     report("date of a day number", date, any);
     return kept == 0;

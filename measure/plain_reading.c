@@ -172,6 +172,11 @@ INLINE uint32_t read_kind(bool dated, bool timed, bool zoned, const uint8_t *oct
     return read_text(dated, timed, zoned, octets, length, parts);
 }
 
+INLINE bool is_sign(uint8_t octet)
+{
+    return octet == '+' || octet == '-';
+}
+
 /* The kind that an either-or kind stands for. */
 INLINE uint32_t chosen_kind(uint32_t kind, const uint8_t *octets, size_t length)
 {
@@ -183,12 +188,16 @@ INLINE uint32_t chosen_kind(uint32_t kind, const uint8_t *octets, size_t length)
             return length <= 4 ? 2 : 3;
         if (length == 7 && octets[0] >> 4 == 9)
             return 3;
+        if (length == 14 && is_sign(octets[8]))
+            return 3;
         return length <= 15 ? 2 : 3;
     case 8:
         if (length <= 9)
             return length <= 6 ? 4 : 5;
         if (octets[0] >> 5 == 4)                                /* 1000 or 1001 */
             return 4 + (octets[0] >> 4 & 1);
+        if (length == 25 && is_sign(octets[19]))
+            return 5;
         return length <= 26 ? 4 : 5;
     default:
         return kind;

@@ -87,14 +87,16 @@ def value(kind, form, digits, year, month, day, micros, offset):
 
 NOON = micros_of(12, 0, 0)
 
-# 01 "Run, not proved", the reading ones; then docs/DECISIONS.md.
+# 01 "Run, not proved", the reading ones; then docs/DECISIONS.md. Request 1 of
+# 02 has turned the answer to 12:00:00+04:30 by TIME_OR_TZ; it was 6.
 READING = (
     (DATETIME, b"\x00", value(DATETIME, COMPACT, 0, 2020, 1, 1, 0, 0)),
     (DATE, b"\x00\x00", 7),
     (DATE_TZ, b"2020-01-01+10:75", 8),
     (TIME_TZ, b"12:00:00+10:75", 8),
     (DATETIME_TZ, b"2020-01-01T12:00:00+10:75", 8),
-    (TIME_OR_TZ, b"12:00:00+04:30", 6),
+    (TIME_OR_TZ, b"12:00:00+04:30",                                 # R1.1
+     value(TIME_TZ, TEXT, 0, 0, 0, 0, NOON, 270)),
     (TIME, b"12:00:00+04:30", 6),                                   # B32
     (TIME_TZ, b"12:00:00+04:30", value(TIME_TZ, TEXT, 0, 0, 0, 0, NOON, 270)),
     (TIME, b"\x80" * 8, 5),                                         # B13
@@ -156,3 +158,70 @@ READING = (
     (DATE_OR_TZ, b"0" * 11, 5),
     (DATE_OR_TZ, b"0" * 15, 5),
 ) + tuple((kind, b"", 5) for kind in range(9))                      # B16
+
+# 02, request 1 (R1.1): what a sign chooses, and where other choices stand.
+REQUEST_1 = (
+    # 14 octets, the ninth a sign: TimeTz, whatever stands elsewhere.
+    (TIME_OR_TZ, b"12:00:00-04:30",
+     value(TIME_TZ, TEXT, 0, 0, 0, 0, NOON, -270)),
+    (TIME_OR_TZ, b"12:00:00+00:00", value(TIME_TZ, TEXT, 0, 0, 0, 0, NOON, 0)),
+    (TIME_OR_TZ, b"24:00:00-23:59",
+     value(TIME_TZ, TEXT, 0, 0, 0, 0, END, -1439)),
+    (TIME_OR_TZ, b"12:00:00-00:00", 7),
+    (TIME_OR_TZ, b"99:00:00-00:00", 7),
+    (TIME_OR_TZ, b"99:00:00+04:30", 8),
+    (TIME_OR_TZ, b"12:00:00+24:00", 8),
+    (TIME_OR_TZ, b"99:00:00+04:3x", 6),
+    (TIME_OR_TZ, b"\x80" + b"2:00:00+04:30", 6),                    # as text
+    (TIME_OR_TZ, b"\x8F" + b"2:00:00-04:30", 6),
+    (TIME_OR_TZ, b"\x90" + b"2:00:00+04:30", 5),                    # extended
+    (TIME_OR_TZ, b"\x9F" + b"2:00:00-04:30", 5),
+    # The ninth no sign: Time.
+    (TIME_OR_TZ, b"12:00:00.00001",
+     value(TIME, TEXT, 5, 0, 0, 0, NOON + 10, 0)),
+    (TIME_OR_TZ, b"12:00:0+004:30", 6),
+    (TIME_OR_TZ, b"12:00:00.+4:30", 6),
+    (TIME_OR_TZ, b"\x80" + b"2:00:0+004:30", 5),                    # extended
+    (TIME_OR_TZ, b"\x80" + b"2:00:000+4:30", 5),
+    (TIME_OR_TZ, b"\x90" + b"2:00:0-004:30", 6),                    # as text
+    (TIME_OR_TZ, b"\x90" + b"2:00:000-4:30", 6),
+    # Up to 15 octets Time, else TimeTz; a point belongs at the ninth place.
+    (TIME_OR_TZ, b"12:00:00+04:3", 6),
+    (TIME_OR_TZ, b"12:00:00+04:300", 6),
+    (TIME_OR_TZ, b"12:00:00+04:3000", 6),
+    (TIME_OR_TZ, b"12:00:00.0+04:30",
+     value(TIME_TZ, TEXT, 1, 0, 0, 0, NOON, 270)),
+    # 25 octets, the twentieth a sign: DatetimeTz, but first bits come before.
+    (DATETIME_OR_TZ, b"2020-01-01T12:00:00-04:30",
+     value(DATETIME_TZ, TEXT, 0, 2020, 1, 1, NOON, -270)),
+    (DATETIME_OR_TZ, b"2020-01-01T12:00:00+04:30",
+     value(DATETIME_TZ, TEXT, 0, 2020, 1, 1, NOON, 270)),
+    (DATETIME_OR_TZ, b"2020-01-01T12:00:00-00:00", 7),
+    (DATETIME_OR_TZ, b"2020-13-01T12:00:00+04:30", 8),
+    (DATETIME_OR_TZ, b"2020-01-01T12:00:00+04:3x", 6),
+    (DATETIME_OR_TZ, b"\x80" + b"020-01-01T12:00:00+04:30", 5),     # Datetime
+    (DATETIME_OR_TZ, b"\x8F" + b"020-01-01T12:00:00-04:30", 5),
+    (DATETIME_OR_TZ, b"\x90" + b"020-01-01T12:00:00+04:30", 5),     # DatetimeTz
+    (DATETIME_OR_TZ, b"\x9F" + b"020-01-01T12:00:00-04:30", 5),
+    # The twentieth no sign: Datetime.
+    (DATETIME_OR_TZ, b"2020-01-01T12:00:00.00001",
+     value(DATETIME, TEXT, 5, 2020, 1, 1, NOON + 10, 0)),
+    (DATETIME_OR_TZ, b"2020-01-01T12:00:0+004:30", 6),
+    (DATETIME_OR_TZ, b"2020-01-01T12:00:00.+4:30", 6),
+    # Up to 26 octets Datetime, else DatetimeTz; a point at the twentieth place.
+    (DATETIME_OR_TZ, b"2020-01-01T12:00:00+04:3", 6),
+    (DATETIME_OR_TZ, b"2020-01-01T12:00:00+04:300", 6),
+    (DATETIME_OR_TZ, b"2020-01-01T12:00:00+04:3000", 6),
+    (DATETIME_OR_TZ, b"2020-01-01T12:00:00.0+04:30",
+     value(DATETIME_TZ, TEXT, 1, 2020, 1, 1, NOON, 270)),
+    # The own readers choose no kind.
+    (TIME, b"12:00:00-04:30", 6),
+    (TIME_TZ, b"12:00:00.00001", 6),
+    (DATETIME, b"2020-01-01T12:00:00-04:30", 6),
+    (DATETIME_TZ, b"2020-01-01T12:00:00-04:30",
+     value(DATETIME_TZ, TEXT, 0, 2020, 1, 1, NOON, -270)),
+    # A Date and a DateTz are told apart by their lengths, as before.
+    (DATE_OR_TZ, b"2020-01-01-04:30",
+     value(DATE_TZ, TEXT, 0, 2020, 1, 1, 0, -270)),
+    (DATE_OR_TZ, b"12:00:00+04:30", 5),
+)

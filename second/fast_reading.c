@@ -34,7 +34,14 @@ static int first_bits(const uint8_t *octets)
     return octets[0] / 16;
 }
 
-/* 01 How a reader chooses, either-or: the first rule that fits. 1000 is 8 and 1001 is 9. */
+/* The signs of an offset, + and - (01 Text). */
+static bool is_sign(uint8_t octet)
+{
+    return octet == 0x2B || octet == 0x2D;
+}
+
+/* 01 How a reader chooses, either-or, and 02, request 1: the first rule that fits. 1000 is 8 and 1001 is 9. Request 1
+ * counts places from one: the ninth is octets[8]. */
 static uint32_t chosen_kind(uint32_t kind, const uint8_t *octets, size_t length)
 {
     if (kind == DATE_OR_TZ) {
@@ -53,6 +60,9 @@ static uint32_t chosen_kind(uint32_t kind, const uint8_t *octets, size_t length)
             return TIME;
         if (length == 7 && first_bits(octets) == 9)
             return TIME_TZ;
+        /* 02, request 1: only the length and this octet count (R1.1). */
+        if (length == 14 && is_sign(octets[8]))
+            return TIME_TZ;
         return length <= 15 ? TIME : TIME_TZ;
     }
     if (kind == DATETIME_OR_TZ) {
@@ -63,6 +73,9 @@ static uint32_t chosen_kind(uint32_t kind, const uint8_t *octets, size_t length)
         if (first_bits(octets) == 8)
             return DATETIME;
         if (first_bits(octets) == 9)
+            return DATETIME_TZ;
+        /* 02, request 1: the first bits have come before it (R1.1). */
+        if (length == 25 && is_sign(octets[19]))
             return DATETIME_TZ;
         return length <= 26 ? DATETIME : DATETIME_TZ;
     }
@@ -118,7 +131,7 @@ static bool fits_place(uint8_t octet, char place)
     if (place == '9')
         return 0x30 <= octet && octet <= 0x39;
     if (place == '#')
-        return octet == 0x2B || octet == 0x2D;
+        return is_sign(octet);
     return octet == place;
 }
 

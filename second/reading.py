@@ -52,8 +52,14 @@ def first_bits(octets):
     return octets[0] // 16
 
 
+def is_sign(octet):
+    """The signs of an offset, + and - (01 Text)."""
+    return octet in (0x2B, 0x2D)
+
+
 def chosen_kind(kind, octets):
-    """01 How a reader chooses, either-or: the first rule that fits."""
+    """01 How a reader chooses, either-or, and 02, request 1: the first rule
+    that fits. Request 1 counts places from one: the ninth is octets[8]."""
     length = len(octets)
     if kind == DATE_OR_TZ:
         if length <= 3:
@@ -70,6 +76,9 @@ def chosen_kind(kind, octets):
             return TIME
         if length == 7 and first_bits(octets) == 0b1001:
             return TIME_TZ
+        # 02, request 1: only the length and this octet count (R1.1).
+        if length == 14 and is_sign(octets[8]):
+            return TIME_TZ
         return TIME if length <= 15 else TIME_TZ
     if kind == DATETIME_OR_TZ:
         if length <= 6:
@@ -79,6 +88,9 @@ def chosen_kind(kind, octets):
         if first_bits(octets) == 0b1000:
             return DATETIME
         if first_bits(octets) == 0b1001:
+            return DATETIME_TZ
+        # 02, request 1: the first bits have come before it (R1.1).
+        if length == 25 and is_sign(octets[19]):
             return DATETIME_TZ
         return DATETIME if length <= 26 else DATETIME_TZ
     return kind
@@ -126,7 +138,7 @@ def fits_place(octet, place):
     if place == "9":
         return 0x30 <= octet <= 0x39
     if place == "#":
-        return octet in (0x2B, 0x2D)
+        return is_sign(octet)
     return octet == ord(place)
 
 

@@ -1,8 +1,9 @@
 """The reading cases: (kind, octets), in a fixed order and none twice.
 
 Here: the documents' examples, images of values and what becomes of them when
-they are damaged, cut and lengthened, all lengths, short inputs, and chance.
-The cases made by hand for each rule are in reading_rules.py.
+they are damaged, cut and lengthened, all lengths, short inputs, and chance;
+last what request 1 of 02 brought. The cases made by hand for each rule are in
+reading_rules.py.
 """
 
 import examples
@@ -213,6 +214,13 @@ def by_chance(cases, chance):
         cases.add((2 + turn % 4, 7 + turn % 2), octets)
 
 
+def request_1(cases):
+    """02, request 1: its examples, and the cases made for its rule."""
+    for kind, octets, _ in examples.REQUEST_1:
+        cases.add((kind,), octets)
+    reading_rules.choice_by_sign(cases)
+
+
 def reading_cases():
     cases = Cases()
     chance = Chance(3_652_058)
@@ -226,4 +234,6 @@ def reading_cases():
     all_lengths(cases)
     short_inputs(cases, chance)
     by_chance(cases, chance)
+    # Behind all others, so that these stay line for line as they were.
+    request_1(cases)
     return list(cases.seen)

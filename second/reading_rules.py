@@ -25,6 +25,7 @@ T = (0, 1, -1, MILLIS_OF_DAY, -MILLIS_OF_DAY - 1, 2 ** 31 - 1, 2 ** 31, -2 ** 31
 DAY_NUMBERS = (0, 737_424, 3_652_058, 3_652_059, 2 ** 23, 2 ** 24 - 1)
 MICROS = (0, 1, 999_999, 86_399_999_999, 86_400_000_000, 86_400_000_001,
           2 ** 39, 2 ** 40 - 1)
+HEADERS = (0x80, 0x8F, 0x90, 0x9F)       # first bits 1000 and 1001
 
 
 class Cases:
@@ -217,6 +218,44 @@ def extended(cases):
                 cases.add_own(kind, octets)
                 if micros in (0, 5_000_000):
                     cases.add((DATETIME, DATETIME_TZ), octets)
+
+
+# The choice between two kinds by a sign
+
+def put(text, place, octet):
+    """Another octet at a place; the first place is 1."""
+    return text[:place - 1] + bytes([octet]) + text[place:]
+
+
+def choice_by_sign(cases):
+    """02, request 1 (R1.1): the ninth place of 13 to 16 octets and the
+    twentieth of 24 to 28 with each octet; signs there behind the first bits
+    of text, 1000 and 1001; at 14 and 25 octets signs beside that place."""
+    for plain, zoned, place, digits_of_zoned in (
+            (TIME, TIME_TZ, 9, (0, 1)), (DATETIME, DATETIME_TZ, 20, (0, 1, 2))):
+        either = EITHER[plain]
+        three = (plain, zoned, either)
+        # A good text of each length: 13 to 16 and 24 to 28.
+        texts = [Fields(digits).text(plain) for digits in (4, 6)]
+        texts += [Fields(digits).text(zoned) for digits in digits_of_zoned]
+        for text in texts:
+            for octet in range(256):
+                cases.add((either,), put(text, place, octet))
+            for first in (text[0],) + HEADERS:
+                for sign in b"+-":
+                    cases.add(three, put(put(text, 1, first), place, sign))
+        # Of 14 and 25 octets also the plain one, with a point at the place.
+        for text in (Fields(5).text(plain), Fields(0).text(zoned)):
+            for first in (text[0],) + HEADERS:
+                start = put(text, 1, first)
+                cases.add(three, start)
+                for sign in b"+-":
+                    cases.add((either,), put(start, place - 1, sign))
+                    cases.add((either,), put(start, place + 1, sign))
+    # Here 5 or 6 tells which kind was chosen: other octets do not count.
+    for start in (b"\x80" + b"\x00" * 13, b"\x90" + b"+" * 13):
+        for octet in range(256):
+            cases.add((TIME_OR_TZ,), put(start, 9, octet))
 
 
 GROUPS = (text_dates, text_times, text_offsets, text_faults_together,

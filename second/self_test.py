@@ -14,6 +14,7 @@ from chance import Chance
 from common import *
 from reading import read
 from reading_cases import reading_cases
+from reading_rules import EITHER
 from writing import write
 from writing_cases import writing_cases
 
@@ -68,7 +69,8 @@ def test_integers():
 
 
 def test_examples():
-    """The fifteen bench lines, "Run, not proved", and docs/DECISIONS.md."""
+    """The fifteen bench lines, "Run, not proved", docs/DECISIONS.md, and
+    request 1 of 02."""
     output = ""
     for letter, call in examples.BENCH:
         number, octets = write(*call)
@@ -76,7 +78,7 @@ def test_examples():
     assert output == examples.BENCH_OUTPUT, output
     for call, (number, octets) in examples.WRITING:
         assert write(*call) == (number, bytes.fromhex(octets)), call
-    for kind, octets, answer in examples.READING:
+    for kind, octets, answer in examples.READING + examples.REQUEST_1:
         assert read(kind, octets) == answer, (kind, octets, read(kind, octets))
 
 
@@ -101,8 +103,13 @@ def value_kept(kind, form, year, month, day, micros, offset, digits):
     return kind, form, digits, year, month, day, micros, offset
 
 
+PLAIN = {TIME_TZ: TIME, DATETIME_TZ: DATETIME}
+
+
 def check_written(call):
-    """What is written is read back as the value that the form keeps."""
+    """What is written is read back as the value that the form keeps, also by
+    the either-or reader. Its one exception is compact with offset zero, which
+    it reads as the plain kind (B33); text without a fraction is none (R1.1)."""
     number, octets = write(*call)
     if number != 0:
         return
@@ -110,6 +117,9 @@ def check_written(call):
     form = writing.form_to_write(kind, micros, binary, version, digits)
     wanted = value_kept(kind, form, year, month, day, micros, offset, digits)
     assert read(kind, octets) == wanted, (call, octets)
+    if kind in PLAIN and form == COMPACT and offset == 0:
+        wanted = (PLAIN[kind],) + wanted[1:]
+    assert read(EITHER[kind], octets) == wanted, (call, octets)
 
 
 def check_read(kind, octets):

@@ -5,7 +5,7 @@ use mathlib.Core.List.{[]}
 use Prim.Native.Nat.{ℕ, _-_, _*_, _/_, _^_, _≤_}
 use native.Mathlib.Omega.{arith}
 use lib.Dec.{eqb}
-use Rattle.format.specs.Values.{Kind, Date, DateTz, Time, TimeTz, Datetime, DatetimeTz, dated, timed, Value, text, compact, Answer}
+use Rattle.format.specs.Values.{Kind, Date, DateTz, Time, TimeTz, Datetime, DatetimeTz, dated, timed, Value, compact, Answer}
 use Rattle.format.specs.Choice.{formFor, settingsFor}
 use borrow.Author.Tests.{le-leb, lt-leb}
 use Rattle.format.specs.Words.{both, refused}
@@ -13,7 +13,7 @@ use Rattle.format.specs.Calendar.{numberAsked, dayAsked}
 use Rattle.format.specs.CompactReading.{shortest, readCompact}
 use Rattle.format.specs.Writing.{imageIn, hasForm, encode}
 use Rattle.format.specs.Reading.{formIn, readIn, read}
-use Rattle.format.specs.EitherOr.{kindIn, readEither, excepted}
+use Rattle.format.specs.EitherOr.{kindBy01, kindIn, readEither, excepted}
 use Rattle.format.specs.Text.{fractionUnit}
 use Rattle.format.specs.Keeping.{own, down, cut}
 use Rattle.format.proofs.Cases.{never}
@@ -23,11 +23,11 @@ use Rattle.format.proofs.Years.{years-entry}
 use Rattle.format.proofs.Dates.{number-small, date-number, number-date}
 use Rattle.format.proofs.Choosing.{chosen-has, settings-for, settings-permitted}
 use Rattle.format.proofs.Round.{written, written-reads, was-read, read-writes}
-use Rattle.format.proofs.Either.{own-kind, exception-compact, exception-text}
+use Rattle.format.proofs.Either.{own-kind, exception-compact}
 use Rattle.format.proofs.Images.{image-octets, image-size, write-numbers, read-numbers}
 use Rattle.format.proofs.Kept.{encode-owned}
 use Rattle.format.proofs.Bench as worked
-use Rattle.claims.specs.Claims.{AcceptedExactly, ReadsWhatWasWritten, CutTo, NeverRoundedUp, WritesWhatWasRead, OwnKind, TheExceptions, CompactOffsetZero, TextWithoutFraction, Images, PartsLacked}
+use Rattle.claims.specs.Claims.{AcceptedExactly, ReadsWhatWasWritten, CutTo, NeverRoundedUp, WritesWhatWasRead, OwnKind, TheException, CompactOffsetZero, TextWithoutFraction, Images, PartsLacked}
 use Rattle.claims.specs.Refusals.{FirstThatApplies, BufferLast, ZeroOctets, TightIsFewest, RefusalNumbers, RefusedHasNoValue}
 use Rattle.claims.specs.Calendar.{NumbersAndDates, DaysAsked, YearStarts}
 use Rattle.claims.specs.Examples.{TheFifteen, TheLengths, TheDays, TheSlips}
@@ -44,7 +44,7 @@ pub the-days : TheDays
 the-days = worked.named-days
 
 pub the-slips : TheSlips
-the-slips = (worked.slips, worked.slips-text, worked.slips-binary, worked.slips-forms, worked.slips-kept, worked.slips-days)
+the-slips = (worked.slips, worked.slips-text, worked.slips-binary, worked.slips-forms, worked.slips-kept, worked.slips-chosen, worked.slips-days)
 
 -- ---- there and back
 
@@ -99,9 +99,9 @@ never-rounded-up k v t = (
 
 -- ---- either-or
 
-pub the-exceptions : TheExceptions
+pub the-exception : TheException
 unfolding excepted
-the-exceptions k v = (λ d. refl, refl, refl)
+the-exception k v = (λ d. refl, refl, refl)
 
 pub own-kinds : OwnKind
 own-kinds k t v s e x =
@@ -118,11 +118,10 @@ compact-offset-zero k t v s e p f z =
     (rw f at (written-reads k t v s e), rw (← i) (exception-compact k v p z (w .range) h))
 
 pub text-without-fraction : TextWithoutFraction
-unfolding imageIn
+unfolding excepted
 text-without-fraction k t v s e p f =
-    let w = written k t v s e in
-    let i : imageIn k (text 0) v ≡ s = rw f at (w .image) in
-    rw (← i) (exception-text k v p (w .range))
+    let o = own-kinds k t v s e (rw f) in
+    (o .0, rw f at (o .1))
 
 -- ---- images and refusals
 
@@ -143,7 +142,7 @@ pub buffer-last : BufferLast
 buffer-last xs room = (λ e. rw e, λ e. rw e)
 
 pub zero-octets : ZeroOctets
-unfolding readEither kindIn
+unfolding readEither kindIn kindBy01
 zero-octets = (none, λ f. none (kindIn f []))
   where
     none : (k : Kind) → read k [] ≡ refused 5

@@ -17,6 +17,7 @@ use Rattle.format.specs.Writing.{imageIn, hasForm, encode}
 use Rattle.format.specs.Buffer.{counts}
 use Rattle.format.specs.Promises.{numberOf}
 use Rattle.format.specs.Reading.{read}
+use Rattle.format.specs.EitherOr.{readEither, familyOf}
 use Rattle.format.proofs.Cases.{cases}
 use Rattle.format.proofs.Round.{written-reads, read-writes}
 use Rattle.values.specs.declared.refusal.Refusal.{Refusal}
@@ -29,7 +30,8 @@ use Rattle.values.specs.Meaning.{refusalNumber, settingsFrom}
 use Rattle.values.specs.Answers.{writtenNumber, writtenCount, reading}
 use Rattle.values.specs.Promise.{Writes, Reads}
 use Rattle.values.proofs.OneAnswer.{one-writing}
-use Rattle.claims.specs.CodeClaims.{RefusedNothingHappens, AnsweredToC, AcceptedOtherwise, kept, ReadsBack, OwnReaderReadsBack, WritesAgain, OwnWriterWritesAgain}
+use Rattle.claims.proofs.Proved.{own-kinds}
+use Rattle.claims.specs.CodeClaims.{RefusedNothingHappens, AnsweredToC, AcceptedOtherwise, kept, ReadsBack, OwnReaderReadsBack, NotExcepted, EitherReaderReadsBack, WritesAgain, OwnWriterWritesAgain}
 
 zero-one : {A : Type 0} (n : ℕ) → suc n ≡ 0 → A
 zero-one n e = absurd (omega arith)
@@ -95,18 +97,38 @@ accepted-otherwise k t v lent left r p = ((all-held k t v lent left r p, back k 
 
 -- ---- there and back, of our own writers and readers
 
-reads-back : (k : format.Kind) (t : Settings) (v : format.Value)
-    → ReadsBack (λ lent r left. Writes (encode k (settingsFrom t) v) lent r left) (λ s r. Reads (read k s) r) (kept k t v)
-reads-back k t v lent left n r p q =
+-- by a reader that reads as o what is written so
+reads-back : (k : format.Kind) (t : Settings) (v : format.Value) (reader : List ℕ → Outcome format.Answer) (o : Outcome format.Answer)
+    → ((s : List ℕ) → encode k (settingsFrom t) v ≡ accepted s → reader s ≡ o)
+    → ReadsBack (λ lent r left. Writes (encode k (settingsFrom t) v) lent r left) (λ s r. Reads (reader s) r) o
+reads-back k t v reader o e lent left n r p q =
     let u = settingsFrom t in
     let xs = imageIn k (formFor k u v) v in
     let f = front k u v lent left (W.Octets n) p refl in
     let s : take n left ≡ xs = rw (f .1) (take-at xs (drop (length xs) lent) n (sym (f .0))) in
-    (rw s at q) ∙ written-reads k u v xs (is-accepted k u v lent left (W.Octets n) p refl)
+    (rw s at q) ∙ e xs (is-accepted k u v lent left (W.Octets n) p refl)
+
+own-reads-back : (k : format.Kind) (t : Settings) (v : format.Value)
+    → ReadsBack (λ lent r left. Writes (encode k (settingsFrom t) v) lent r left) (λ s r. Reads (read k s) r) (kept k t v)
+own-reads-back k t v = reads-back k t v (read k) (kept k t v) (written-reads k (settingsFrom t) v)
 
 pub own-reader-reads-back : OwnReaderReadsBack
 own-reader-reads-back =
-    (λ t v. reads-back _ t _, λ t v. reads-back _ t _, λ t v. reads-back _ t _, λ t v. reads-back _ t _, λ t v. reads-back _ t _, λ t v. reads-back _ t _)
+    (λ t v. own-reads-back _ t _, λ t v. own-reads-back _ t _, λ t v. own-reads-back _ t _, λ t v. own-reads-back _ t _, λ t v. own-reads-back _ t _, λ t v. own-reads-back _ t _)
+
+either-reads-back : (k : format.Kind) (t : Settings) (v : format.Value) → NotExcepted k t v
+    → ReadsBack (λ lent r left. Writes (encode k (settingsFrom t) v) lent r left) (λ s r. Reads (readEither (familyOf k) s) r) (kept k t v)
+either-reads-back k t v x = reads-back k t v (readEither (familyOf k)) (kept k t v) (λ s e. own-kinds k (settingsFrom t) v s e x .1)
+
+pub either-reader-reads-back : EitherReaderReadsBack
+either-reader-reads-back = (
+  λ t v. either-reads-back format.Date t _,
+  λ t v. either-reads-back format.DateTz t _,
+  λ t v. either-reads-back format.Time t _,
+  λ t v. either-reads-back format.TimeTz t _,
+  λ t v. either-reads-back format.Datetime t _,
+  λ t v. either-reads-back format.DatetimeTz t _,
+)
 
 writes-again : (k : format.Kind) (s : List ℕ) (t : Settings) (a : format.Answer) → Octets s → accepted a ≡ read k s → settingsFrom t ≡ settingsFor (a .form)
     → WritesAgain s (λ lent r left. Writes (encode k (settingsFrom t) (a .value)) lent r left)

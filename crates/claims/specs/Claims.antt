@@ -1,13 +1,13 @@
 -- What is claimed of document 01's rules, to be read by itself: each claim stands under its sentence of the users' demands.
 -- `proofs/Proved.antt` has a proof of each. The rules are those of the crate `format`: what a writer writes (`encode`, `imageIn`, `formFor`,
 -- `settingsFor`), what a reader answers (`read`, `readEither`), what a form keeps (`cut`), what is in range and permitted (`inRange`, `permitted`),
--- and which kinds and values the two exceptions are about (`familyOf`, `plainOf`, `excepted`).
+-- and which kinds and values the exception is about (`familyOf`, `plainOf`, `excepted`).
 --
 -- The third demand: "For each kind, octets are accepted exactly when some value in range, under some permitted settings, is written so. What is
 -- read is that value, cut to what its form keeps (compact date-time: the end of a day reads as the start of the next). Writing it again in the form
 -- and digits found gives the same octets. Where plain and zoned are both possible, what was written reads back as its own kind, but for two exceptions:
 -- a compact time or date-time with offset zero reads as plain, with the local reading that its own reader gives; a zoned text time or date-time
--- without fraction is refused."
+-- without fraction is refused." Request 1 of document 02 took the second exception away: such a text now reads back as its own kind.
 --
 --   (x : T) → ..     for every x of T, ..; `A → B` between statements is 'if A then B'
 --   (x : T) × ..     there is an x of T with ..; `A × B` between statements is 'A and B'
@@ -22,7 +22,7 @@ use Prim.Native.Nat.{ℕ, _+_, _-_, _%_, _^_, _<_, _≤_}
 use lib.IntN.{natAbs}
 use lib.Dec.{eqb}
 use lib.ListN.{length}
-use Rattle.format.specs.Words.{both, accepted, refused}
+use Rattle.format.specs.Words.{both, accepted}
 use Rattle.format.specs.Octets.{Octets}
 use Rattle.format.specs.Values.{Kind, dated, timed, zoned, Value, inRange, Settings, permitted, Form, text, compact, extended, Answer}
 use Rattle.format.specs.Choice.{formFor, settingsFor}
@@ -71,22 +71,22 @@ WritesWhatWasRead =
     × (formFor k (settingsFor (a .form)) (a .value) ≡ a .form)
     × (encode k (settingsFor (a .form)) (a .value) ≡ accepted s)
 
--- Where plain and zoned are both possible, what was written reads back as its own kind, but for two exceptions:
+-- Where plain and zoned are both possible, what was written reads back as its own kind, but for one exception:
 abbrev pub OwnKind : Type 0
 OwnKind =
     (k : Kind) (t : Settings) (v : Value) (s : List ℕ) → encode k t v ≡ accepted s → excepted k (formFor k t v) v ≡ false
     → (readEither (familyOf k) s ≡ read k s)
     × (readEither (familyOf k) s ≡ accepted (said k (formFor k t v) (cut k (formFor k t v) v)))
 
--- (which these are, exactly: nothing else is left out of the claim above)
-abbrev pub TheExceptions : Type 0
-TheExceptions =
+-- (which it is, exactly: nothing else is left out of the claim above)
+abbrev pub TheException : Type 0
+TheException =
     (k : Kind) (v : Value)
-    → ((d : ℕ) → excepted k (text d) v ≡ both (both (zoned k) (timed k)) (eqb d 0))
+    → ((d : ℕ) → excepted k (text d) v ≡ false)
     × (excepted k compact v ≡ both (both (zoned k) (timed k)) (eqb (natAbs (v .offset)) 0))
     × (excepted k extended v ≡ false)
 
--- a compact time or date-time with offset zero reads as plain, with the local reading that its own reader gives;
+-- a compact time or date-time with offset zero reads as plain, with the local reading that its own reader gives.
 abbrev pub CompactOffsetZero : Type 0
 CompactOffsetZero =
     (k : Kind) (t : Settings) (v : Value) (s : List ℕ) → encode k t v ≡ accepted s
@@ -94,12 +94,14 @@ CompactOffsetZero =
     → (read k s ≡ accepted (said k compact (cut k compact v)))
     × (readEither (familyOf k) s ≡ accepted (said (plainOf k) compact (cut k compact v)))
 
--- a zoned text time or date-time without fraction is refused.
+-- 02, request 1: "Demand 3 loses its second exception". A zoned text time or date-time without fraction reads back as its own kind, as its own reader
+-- reads it.
 abbrev pub TextWithoutFraction : Type 0
 TextWithoutFraction =
     (k : Kind) (t : Settings) (v : Value) (s : List ℕ) → encode k t v ≡ accepted s
     → both (zoned k) (timed k) ≡ true → formFor k t v ≡ text 0
-    → readEither (familyOf k) s ≡ refused 6
+    → (readEither (familyOf k) s ≡ read k s)
+    × (readEither (familyOf k) s ≡ accepted (said k (text 0) (cut k (text 0) v)))
 
 -- What is written are octets, 1 to 32 of them.
 abbrev pub Images : Type 0

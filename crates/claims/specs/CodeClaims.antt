@@ -7,7 +7,7 @@
 use Prim.Native.Nat.{ℕ, _<_, _≤_}
 use mathlib.Core.Path.{_≡_}
 use mathlib.Core.Logic.{_↔_}
-use mathlib.Core.Bool.{true}
+use mathlib.Core.Bool.{true, false}
 use mathlib.Core.List.{List, _++_}
 use lib.IntN.{ℤ}
 use lib.ListN.{length, take, drop}
@@ -16,6 +16,7 @@ use Rattle.format.specs.Octets.{Octets}
 use Rattle.format.specs.Values as format
 use Rattle.format.specs.Choice.{formFor}
 use Rattle.format.specs.Writing.{imageIn, hasForm, encode}
+use Rattle.format.specs.EitherOr.{excepted}
 use Rattle.format.specs.Keeping.{cut}
 use Rattle.calendar.specs.declared.Date.{Date}
 use Rattle.values.specs.declared.parts.Time.{Time}
@@ -43,6 +44,7 @@ use Rattle.values.specs.Promise.{Writes, Reads}
 use Rattle.values.specs.Calls.{SettingsForForm}
 use Rattle.stamp.specs.Calls.{WritesDate, WritesDateTz, WritesTime, WritesTimeTz, WritesDatetime, WritesDatetimeTz}
 use Rattle.stamp.specs.Calls.{ReadsDate, ReadsDateTz, ReadsTime, ReadsTimeTz, ReadsDatetime, ReadsDatetimeTz}
+use Rattle.stamp.specs.Calls.{ReadsDateOrDateTz, ReadsTimeOrTimeTz, ReadsDatetimeOrDatetimeTz}
 use Rattle.boundary.specs.Boundary.{writing, readingOf, partsOf, WritesNumbered, ReadsNumbered}
 use Rattle.claims.specs.Claims.{said}
 
@@ -92,7 +94,22 @@ OwnReaderReadsBack =
     × ((t : Settings) (v : Datetime) → ReadsBack (WritesDatetime t v) ReadsDatetime (kept format.Datetime t (datetimeValue v)))
     × ((t : Settings) (v : DatetimeTz) → ReadsBack (WritesDatetimeTz t v) ReadsDatetimeTz (kept format.DatetimeTz t (datetimeTzValue v)))
 
--- and what our reader of a kind accepted, our writer writes again, octet for octet, under `Settings::for_form` of the form found.
+-- and so does our either-or reader, as its own kind, but for the exception (`TheException`): a text is read back always.
+abbrev pub NotExcepted : format.Kind → Settings → format.Value → Type 0
+NotExcepted k t v = excepted k (formFor k (settingsFrom t) v) v ≡ false
+
+abbrev pub EitherReaderReadsBack : Type 0
+EitherReaderReadsBack =
+    ((t : Settings) (v : Date) → NotExcepted format.Date t (dateValue v) → ReadsBack (WritesDate t v) ReadsDateOrDateTz (kept format.Date t (dateValue v)))
+    × ((t : Settings) (v : DateTz) → NotExcepted format.DateTz t (dateTzValue v) → ReadsBack (WritesDateTz t v) ReadsDateOrDateTz (kept format.DateTz t (dateTzValue v)))
+    × ((t : Settings) (v : Time) → NotExcepted format.Time t (timeValue v) → ReadsBack (WritesTime t v) ReadsTimeOrTimeTz (kept format.Time t (timeValue v)))
+    × ((t : Settings) (v : TimeTz) → NotExcepted format.TimeTz t (timeTzValue v) → ReadsBack (WritesTimeTz t v) ReadsTimeOrTimeTz (kept format.TimeTz t (timeTzValue v)))
+    × ((t : Settings) (v : Datetime) → NotExcepted format.Datetime t (datetimeValue v)
+    → ReadsBack (WritesDatetime t v) ReadsDatetimeOrDatetimeTz (kept format.Datetime t (datetimeValue v)))
+    × ((t : Settings) (v : DatetimeTz) → NotExcepted format.DatetimeTz t (datetimeTzValue v)
+    → ReadsBack (WritesDatetimeTz t v) ReadsDatetimeOrDatetimeTz (kept format.DatetimeTz t (datetimeTzValue v)))
+
+-- And what our reader of a kind accepted, our writer writes again, octet for octet, under `Settings::for_form` of the form found.
 abbrev pub WritesAgain : List ℕ → (List ℕ → Written → List ℕ → Type 0) → Type 0
 WritesAgain s Wrote =
     (lent left : List ℕ) (r : Written) → Wrote lent r left → length s ≤ length lent → (r ≡ W.Octets (length s)) × (left ≡ s ++ drop (length s) lent)

@@ -5,7 +5,7 @@
 --   TheDays         0 at 0001-01-01, 737,424 at 2020-01-01, 3,652,058 at 9999-12-31
 --   TheSlips        what comes instead of each slip that has been seen, and both sides of what is easily taken for its neighbour
 use Rattle.format.specs.Bench.{Fifteen, TextLengths, NamedDays}
-use Rattle.format.specs.Slips.{Slips, SlipsText, SlipsBinary, SlipsForms, SlipsKept, SlipsDays}
+use Rattle.format.specs.Slips.{Slips, SlipsText, SlipsBinary, SlipsForms, SlipsKept, SlipsChosen, SlipsDays}
 
 abbrev pub TheFifteen : Type 0
 TheFifteen = Fifteen
@@ -17,4 +17,4 @@ abbrev pub TheDays : Type 0
 TheDays = NamedDays
 
 abbrev pub TheSlips : Type 0
-TheSlips = Slips × SlipsText × SlipsBinary × SlipsForms × SlipsKept × SlipsDays
+TheSlips = Slips × SlipsText × SlipsBinary × SlipsForms × SlipsKept × SlipsChosen × SlipsDays

@@ -1,30 +1,31 @@
--- What is claimed of limits, defaults and choices, in 01's own numbers: each stands here as a literal and not by its name in the definitions, so that a
--- definition with another number would make a claim false. (`ReaderRefusals.antt` has the numbers of the readers' questions in the same way.)
+-- What is claimed of limits, defaults and choices, in the documents' own numbers: each stands here as a literal and not by its name in the definitions, so
+-- that a definition with another number would make a claim false. (`ReaderRefusals.antt` has the numbers of the readers' questions in the same way.)
 --
 --   inRange k v           each part that the kind has is in its range; `needs (zoned k) ..`: asked only where the kind has an offset
 --   permitted t           the settings may be given
 --   formFor k t v         the form that a writer chooses
 --   hasForm k compact v   the value has a compact form; where not, refusal 3
 --   number k v            the number that compact writes: days, milliseconds, T
---   kindIn e s            the kind that an either-or reader chooses
+--   kindIn e s            the kind that an either-or reader chooses; `kindBy01 e s`: that it chose before request 1 of document 02
 --   between a b n         n is from a to b; `signedBetween a b x`: x is from -a to b
 use Prim.Native.Nat.{ℕ, _≤_}
 use mathlib.Core.Path.{_≡_}
 use mathlib.Core.Logic.{_↔_}
-use mathlib.Core.Bool.{Bool, true, false}
+use mathlib.Core.Bool.{Bool, true, false, not}
 use mathlib.Core.List.{List}
 use lib.IntN.{ℤ, pos, negsuc, natAbs}
 use lib.Dec.{leb, eqb}
 use lib.ListN.{length, getD}
-use Rattle.format.specs.Words.{both, either, needs, ifAny}
+use Rattle.format.specs.Words.{both, either, needs, ifAny, accepted}
 use Rattle.format.specs.Octets.{Octets}
 use Rattle.format.specs.Calendar.{isDay}
 use Rattle.format.specs.Values as format
-use Rattle.format.specs.Values.{Kind, Date, DateTz, Time, TimeTz, Datetime, DatetimeTz, dated, timed, zoned, Value, inRange, permitted, text, compact, extended}
+use Rattle.format.specs.Values.{Kind, Date, DateTz, Time, TimeTz, Datetime, DatetimeTz, dated, timed, zoned, Value, inRange, permitted, text, compact, extended, Answer}
 use Rattle.format.specs.Choice.{formFor}
 use Rattle.format.specs.Compact.{number}
 use Rattle.format.specs.Writing.{hasForm}
-use Rattle.format.specs.EitherOr.{DateOrTz, TimeOrTz, DatetimeOrTz, kindIn}
+use Rattle.format.specs.Reading.{read}
+use Rattle.format.specs.EitherOr.{Family, DateOrTz, TimeOrTz, DatetimeOrTz, kindBy01, kindIn, readEither}
 use Rattle.values.specs.declared.settings.Settings.{Settings}
 use Rattle.values.specs.Calls.{SettingsDefault}
 use Rattle.claims.specs.ReaderRefusals.{between, signedBetween}
@@ -77,6 +78,14 @@ bits1000 s = between 0x80 0x8F (getD s 0 0)
 abbrev pub bits1001 : List ℕ → Bool
 bits1001 s = between 0x90 0x9F (getD s 0 0)
 
+-- 02, request 1: "14 octets whose ninth is `+` or `-`",
+abbrev pub ninthIsSign : List ℕ → Bool
+ninthIsSign s = both (eqb (length s) 14) (either (eqb (getD s 8 0) 0x2B) (eqb (getD s 8 0) 0x2D))
+
+-- and "25 octets whose twentieth is `+` or `-`"
+abbrev pub twentiethIsSign : List ℕ → Bool
+twentiethIsSign s = both (eqb (length s) 25) (either (eqb (getD s 19 0) 0x2B) (eqb (getD s 19 0) 0x2D))
+
 -- "Either-or, first rule that fits." Of s, n octets,
 -- "Date: up to 3 plain, up to 5 zoned, up to 10 plain, else zoned."
 abbrev pub ChosenDate : List ℕ → ℕ → Type 0
@@ -86,25 +95,44 @@ ChosenDate s n =
     × (6 ≤ n → n ≤ 10 → kindIn DateOrTz s ≡ Date)
     × (11 ≤ n → kindIn DateOrTz s ≡ DateTz)
 
--- "Time: up to 4 plain; up to 6 zoned; 7 with bits 1000 plain; 7 with 1001 zoned; up to 15 plain; else zoned."
+-- "Time: up to 4 plain; up to 6 zoned; 7 with bits 1000 plain; 7 with 1001 zoned; [02: 14 octets whose ninth is a sign zoned;] up to 15 plain; else zoned."
 abbrev pub ChosenTime : List ℕ → ℕ → Type 0
 ChosenTime s n =
     (n ≤ 4 → kindIn TimeOrTz s ≡ Time)
     × (5 ≤ n → n ≤ 6 → kindIn TimeOrTz s ≡ TimeTz)
     × (n ≡ 7 → bits1001 s ≡ true → kindIn TimeOrTz s ≡ TimeTz)
     × (n ≡ 7 → bits1001 s ≡ false → kindIn TimeOrTz s ≡ Time)
-    × (8 ≤ n → n ≤ 15 → kindIn TimeOrTz s ≡ Time)
+    × (ninthIsSign s ≡ true → kindIn TimeOrTz s ≡ TimeTz)
+    × (8 ≤ n → n ≤ 15 → ninthIsSign s ≡ false → kindIn TimeOrTz s ≡ Time)
     × (16 ≤ n → kindIn TimeOrTz s ≡ TimeTz)
 
--- "Datetime: up to 6 plain; up to 9 zoned; bits 1000 plain; bits 1001 zoned; up to 26 plain; else zoned."
+-- "Datetime: up to 6 plain; up to 9 zoned; bits 1000 plain; bits 1001 zoned; [02: 25 octets whose twentieth is a sign zoned;] up to 26 plain; else zoned."
 abbrev pub ChosenDatetime : List ℕ → ℕ → Type 0
 ChosenDatetime s n =
     (n ≤ 6 → kindIn DatetimeOrTz s ≡ Datetime)
     × (7 ≤ n → n ≤ 9 → kindIn DatetimeOrTz s ≡ DatetimeTz)
     × (10 ≤ n → bits1000 s ≡ true → kindIn DatetimeOrTz s ≡ Datetime)
     × (10 ≤ n → bits1001 s ≡ true → kindIn DatetimeOrTz s ≡ DatetimeTz)
-    × (10 ≤ n → n ≤ 26 → bits1001 s ≡ false → kindIn DatetimeOrTz s ≡ Datetime)
+    × (bits1000 s ≡ false → twentiethIsSign s ≡ true → kindIn DatetimeOrTz s ≡ DatetimeTz)
+    × (10 ≤ n → n ≤ 26 → bits1001 s ≡ false → twentiethIsSign s ≡ false → kindIn DatetimeOrTz s ≡ Datetime)
     × (27 ≤ n → bits1000 s ≡ false → kindIn DatetimeOrTz s ≡ DatetimeTz)
 
 abbrev pub ChosenKind : Type 0
 ChosenKind = (s : List ℕ) → ChosenDate s (length s) × ChosenTime s (length s) × ChosenDatetime s (length s)
+
+-- 02, request 1: "other choices stand". Where request 1 moves 01's choice: for a time wherever its rule fits, for a date-time where 01's of the first bits do not.
+abbrev pub moves : Family → List ℕ → Bool
+moves DateOrTz s = false
+moves TimeOrTz s = ninthIsSign s
+moves DatetimeOrTz s = both (twentiethIsSign s) (not (either (bits1000 s) (bits1001 s)))
+
+-- There and nowhere else the two choices differ: 01's was the plain kind, and the zoned one is chosen now.
+abbrev pub OtherChoicesStand : Type 0
+OtherChoicesStand =
+    ((e : Family) (s : List ℕ) → (kindIn e s ≡ kindBy01 e s) ↔ (moves e s ≡ false))
+    × ((s : List ℕ) → moves TimeOrTz s ≡ true → (kindBy01 TimeOrTz s ≡ Time) × (kindIn TimeOrTz s ≡ TimeTz))
+    × ((s : List ℕ) → moves DatetimeOrTz s ≡ true → (kindBy01 DatetimeOrTz s ≡ Datetime) × (kindIn DatetimeOrTz s ≡ DatetimeTz))
+
+-- So no stamp is lost: what was accepted by 01's choice is accepted still, with the same answer.
+abbrev pub NoStampLost : Type 0
+NoStampLost = (e : Family) (s : List ℕ) (a : Answer) → read (kindBy01 e s) s ≡ accepted a → readEither e s ≡ accepted a

@@ -215,7 +215,7 @@ FirstOf k f s o =
 abbrev pub ReaderFirstThatApplies : Type 0
 ReaderFirstThatApplies = (k : Kind) (s : List ℕ) → Octets s → FirstOf k (formIn k s) s (read k s)
 
--- and an either-or reader as the reader of the kind that is chosen (`kindIn e s`, by 01's either-or rules). That zero octets are always 5 is in these
+-- and an either-or reader as the reader of the kind that is chosen (`kindIn e s`, see `ChosenKind`). That zero octets are always 5 is in these
 -- lengths, and `ZeroOctets` says it outright.
 abbrev pub EitherFirstThatApplies : Type 0
 EitherFirstThatApplies =

@@ -15,10 +15,10 @@ use Rattle.format.specs.CompactReading.{shortest, longestPlain, carriedI
 use Rattle.format.specs.Extended.{headBits, twelve, dayWidth, extendedImage, offsetFrom, extendedValue, readExtended}
 use Rattle.format.specs.Writing.{imageIn, hasForm, encode}
 use Rattle.format.specs.Reading.{firstBits, formIn, readIn, read}
-use Rattle.format.specs.EitherOr.{excepted}
+use Rattle.format.specs.EitherOr.{kindBy01, kindIn, readEither, excepted}
 use Rattle.format.specs.Keeping.{own, down, cut}
 use Rattle.format.specs.Bench.{bench, Fifteen, TextLengths, NamedDays}
-use Rattle.format.specs.Slips.{Slips, SlipsText, SlipsBinary, SlipsForms, SlipsKept, SlipsDays}
+use Rattle.format.specs.Slips.{Slips, SlipsText, SlipsBinary, SlipsForms, SlipsKept, SlipsChosen, SlipsDays}
 
 pub fifteen : Fifteen
 unfolding sumFrom place leap yearLength monthLength isDay dayNumber timeInRange offsetInRange inRange formFor unsignedOctets signedOctets firstFrom fewestOctets perDay start count number greatest carried hasCompact paddedTo numberOctets compactImage headBits twelve dayWidth extendedImage imageIn hasForm encode bench
@@ -49,8 +49,12 @@ unfolding formFor settingsFor
 slips-forms = (refl, refl, refl, refl, refl, refl, refl)
 
 pub slips-kept : SlipsKept
-unfolding sumFrom place leap yearLength monthLength dayNumber dayOf fractionUnit own down cut excepted
-slips-kept = (refl, refl, refl, refl, refl, refl, refl, refl)
+unfolding sumFrom place leap yearLength monthLength dayNumber dayOf fractionUnit own down cut
+slips-kept = (refl, refl, refl)
+
+pub slips-chosen : SlipsChosen
+unfolding leap monthLength isDay areDigits numberAt width fitsAt saysAt widths fit says layout textLength fractionUnit digitsFrom digitsFound minusZero clockInRange numbersInRange textValue readFields readText longestPlain headBits dayWidth readExtended firstBits formIn readIn read kindBy01 kindIn readEither excepted
+slips-chosen = (refl, refl, refl, refl, refl, refl, refl, refl, refl, refl, refl, refl, refl, refl, refl, refl)
 
 pub slips-days : SlipsDays
 unfolding sumFrom place leap yearLength monthLength isDay dayNumber dayOf yearStart

@@ -1,28 +1,28 @@
--- The either-or readers find the kind that was written, but for the two exceptions. Assumes nothing.
+-- The either-or readers find the kind that was written, but for the one exception. Assumes nothing.
 use mathlib.Core.Path.{_≡_, refl, sym}
 use mathlib.Core.Bool.{Bool, true, false, not}
 use mathlib.Core.List.{List}
-use Prim.Native.Nat.{ℕ, _+_, _≤_}
+use Prim.Native.Nat.{ℕ, zero, suc, _+_, _≤_}
 use native.Mathlib.Omega.{arith}
 use lib.IntN.{natAbs}
 use lib.Dec.{eqb}
-use lib.ListN.{length}
-use borrow.Author.Tests.{le-leb, lt-leb, leb-true, ltb-true, eq-eqb}
-use Rattle.format.specs.Words.{pick, both, needs, ifAny, accepted, refused}
+use lib.Signed.{nonNeg}
+use lib.ListN.{length, getD}
+use borrow.Author.Tests.{le-leb, lt-leb, leb-true, ltb-true, eq-eqb, ne-eqb}
+use Rattle.format.specs.Words.{pick, both, needs, ifAny, accepted}
 use Rattle.format.specs.Values.{Kind, Date, DateTz, Time, TimeTz, Datetime, DatetimeTz, dated, timed, zoned, Value, inRange, Form, text, compact, extended}
 use Rattle.format.specs.Choice.{kindHas}
 use Rattle.format.specs.Digits.{digitsOf}
-use Rattle.format.specs.Fields.{width, widths, put, puts, fitsAt, fit}
+use Rattle.format.specs.Fields.{width, widths, put, puts}
 use Rattle.format.specs.Text.{layout, textLength, textNumbers, textImage}
-use Rattle.format.specs.TextReading.{digitsFrom, digitsFound, readFields, readText}
 use Rattle.format.specs.Compact.{perDay, start, count, number, greatest, carried, hasCompact, paddedTo, numberOctets, compactImage}
 use Rattle.format.specs.CompactReading.{longestPlain, shortest, carriedIn}
 use Rattle.format.specs.Extended.{headBits, dayWidth, extendedImage}
 use Rattle.format.specs.Writing.{imageIn, hasForm}
-use Rattle.format.specs.Reading.{firstBits, formIn, readIn, read}
-use Rattle.format.specs.EitherOr.{kindIn, TimeOrTz, DatetimeOrTz, readEither, familyOf, plainOf, excepted}
+use Rattle.format.specs.Reading.{firstBits}
+use Rattle.format.specs.EitherOr.{kindBy01, isSign, kindIn, TimeOrTz, DatetimeOrTz, readEither, familyOf, plainOf, excepted}
 use Rattle.format.specs.Keeping.{own, cut}
-use Rattle.format.proofs.Cases.{both-true, both-false, never, at-most}
+use Rattle.format.proofs.Cases.{both-true, never, at-most}
 use Rattle.format.proofs.Clock.{seven}
 use Rattle.format.proofs.Text.{in-range, range-in, text-length}
 use Rattle.format.proofs.Extended.{extended-length}
@@ -30,30 +30,52 @@ use Rattle.format.proofs.Compact.{Seen, compact-seen, zero-is}
 use Rattle.format.proofs.Choosing.{text-first, extended-first}
 use Rattle.format.proofs.Round.{answered, image-reads}
 
--- ---- the kind, from the octets: their length and first bits
+-- ---- the kind, from the octets: their length and first bits, and of a text the octet behind the seconds
 
--- a text has the first bits of a digit
+-- where the octet behind the seconds of a text stands
+abbrev behind : Kind → ℕ
+behind k = pick (dated k) 19 8
+
+sign-is : (b : Bool) → isSign (pick (eqb (pick b 0 1) 0) 43 45) ≡ true
+sign-is true = refl
+sign-is false = refl
+
+-- there is a sign where the kind is zoned and there is no fraction
+text-sign : (k : Kind) (d : ℕ) (v : Value) → timed k ≡ true → isSign (getD (textImage k d v) (behind k) 0) ≡ both (zoned k) (eqb d 0)
+unfolding textImage textNumbers layout puts put digitsOf
+text-sign Date d v t = never t
+text-sign DateTz d v t = never t
+text-sign Time zero v t = refl
+text-sign Time (suc d) v t = rw (ne-eqb (suc d) 0 (λ e. omega arith))
+text-sign TimeTz zero v t = sign-is (nonNeg (v .offset))
+text-sign TimeTz (suc d) v t = rw (ne-eqb (suc d) 0 (λ e. omega arith))
+text-sign Datetime zero v t = refl
+text-sign Datetime (suc d) v t = rw (ne-eqb (suc d) 0 (λ e. omega arith))
+text-sign DatetimeTz zero v t = sign-is (nonNeg (v .offset))
+text-sign DatetimeTz (suc d) v t = rw (ne-eqb (suc d) 0 (λ e. omega arith))
+
+-- a text begins with a digit
 module _ (s : List ℕ) (b : firstBits s ≡ 3) where
-  kind-text : (k : Kind) (d : ℕ) → length s ≡ textLength k d → d ≤ ifAny (timed k) 6 → (both (zoned k) (timed k) ≡ true → d ≡ 0 → ⊥)
+  kind-text : (k : Kind) (d : ℕ) → length s ≡ textLength k d → d ≤ ifAny (timed k) 6 → (timed k ≡ true → isSign (getD s (behind k) 0) ≡ both (zoned k) (eqb d 0))
       → kindIn (familyOf k) s ≡ k
-  unfolding kindIn textLength layout widths width
-  kind-text Date d l h n = rw l
-  kind-text DateTz d l h n = rw l
-  kind-text Time d l h n =
+  unfolding kindIn kindBy01 textLength layout widths width
+  kind-text Date d l h g = rw l
+  kind-text DateTz d l h g = rw l
+  kind-text Time d l h g =
       seven (λ d. length s ≡ textLength Time d → kindIn TimeOrTz s ≡ Time)
-      (λ l. rw l) (λ l. rw l) (λ l. rw l) (λ l. rw l) (λ l. rw l) (λ l. rw l) (λ l. rw l) d h l
-  kind-text TimeTz d l h n =
-      seven (λ d. length s ≡ textLength TimeTz d → (d ≡ 0 → ⊥) → kindIn TimeOrTz s ≡ TimeTz)
-      (λ l x. absurd (x refl)) (λ l x. rw l) (λ l x. rw l) (λ l x. rw l) (λ l x. rw l) (λ l x. rw l) (λ l x. rw l) d h l (n refl)
-  kind-text Datetime d l h n =
+      (λ l. rw l) (λ l. rw l) (λ l. rw l) (λ l. rw l) (λ l. rw l) (λ l. rw (l, g refl)) (λ l. rw l) d h l
+  kind-text TimeTz d l h g =
+      seven (λ d. length s ≡ textLength TimeTz d → isSign (getD s 8 0) ≡ eqb d 0 → kindIn TimeOrTz s ≡ TimeTz)
+      (λ l g. rw (l, g)) (λ l g. rw l) (λ l g. rw l) (λ l g. rw l) (λ l g. rw l) (λ l g. rw l) (λ l g. rw l) d h l (g refl)
+  kind-text Datetime d l h g =
       seven (λ d. length s ≡ textLength Datetime d → kindIn DatetimeOrTz s ≡ Datetime)
-      (λ l. rw (l, b)) (λ l. rw (l, b)) (λ l. rw (l, b)) (λ l. rw (l, b)) (λ l. rw (l, b)) (λ l. rw (l, b)) (λ l. rw (l, b)) d h l
-  kind-text DatetimeTz d l h n =
-      seven (λ d. length s ≡ textLength DatetimeTz d → (d ≡ 0 → ⊥) → kindIn DatetimeOrTz s ≡ DatetimeTz)
-      (λ l x. absurd (x refl)) (λ l x. rw (l, b)) (λ l x. rw (l, b)) (λ l x. rw (l, b)) (λ l x. rw (l, b)) (λ l x. rw (l, b)) (λ l x. rw (l, b)) d h l (n refl)
+      (λ l. rw (l, b)) (λ l. rw (l, b)) (λ l. rw (l, b)) (λ l. rw (l, b)) (λ l. rw (l, b)) (λ l. rw (l, b, g refl)) (λ l. rw (l, b)) d h l
+  kind-text DatetimeTz d l h g =
+      seven (λ d. length s ≡ textLength DatetimeTz d → isSign (getD s 19 0) ≡ eqb d 0 → kindIn DatetimeOrTz s ≡ DatetimeTz)
+      (λ l g. rw (l, b, g)) (λ l g. rw (l, b)) (λ l g. rw (l, b)) (λ l g. rw (l, b)) (λ l g. rw (l, b)) (λ l g. rw (l, b)) (λ l g. rw (l, b)) d h l (g refl)
 
 kind-extended : (k : Kind) (s : List ℕ) → timed k ≡ true → length s ≡ 7 + dayWidth k → firstBits s ≡ headBits k → kindIn (familyOf k) s ≡ k
-unfolding kindIn dayWidth headBits
+unfolding kindIn kindBy01 dayWidth headBits
 kind-extended Date s t l b = never t
 kind-extended DateTz s t l b = never t
 kind-extended Time s t l b = rw (l, b)
@@ -63,13 +85,15 @@ kind-extended DatetimeTz s t l b = rw (l, b)
 
 -- as many octets as the compact form has, with an offset in front where the kind is zoned
 kind-compact : (k : Kind) (s : List ℕ) → Seen k (zoned k) (length s) → kindIn (familyOf k) s ≡ k
-unfolding kindIn shortest longestPlain carriedIn
+unfolding kindIn kindBy01 shortest longestPlain carriedIn
 kind-compact Date s e = rw (le-leb (length s) 3 (e .long))
 kind-compact DateTz s e = rw (lt-leb (length s) 3 (e .short), le-leb (length s) 5 (e .long))
-kind-compact Time s e = rw (le-leb (length s) 4 (e .long))
-kind-compact TimeTz s e = rw (lt-leb (length s) 4 (ltb-true 4 (length s) (e .carried)), le-leb (length s) 6 (e .long))
-kind-compact Datetime s e = rw (le-leb (length s) 6 (e .long))
-kind-compact DatetimeTz s e = rw (lt-leb (length s) 6 (ltb-true 6 (length s) (e .carried)), le-leb (length s) 9 (e .long))
+kind-compact Time s e = rw (ne-eqb (length s) 14 (λ n. omega (arith, e .long)), le-leb (length s) 4 (e .long))
+kind-compact TimeTz s e =
+    rw (ne-eqb (length s) 14 (λ n. omega (arith, e .long)), lt-leb (length s) 4 (ltb-true 4 (length s) (e .carried)), le-leb (length s) 6 (e .long))
+kind-compact Datetime s e = rw (ne-eqb (length s) 25 (λ n. omega (arith, e .long)), le-leb (length s) 6 (e .long))
+kind-compact DatetimeTz s e =
+    rw (ne-eqb (length s) 25 (λ n. omega (arith, e .long)), lt-leb (length s) 6 (ltb-true 6 (length s) (e .carried)), le-leb (length s) 9 (e .long))
 
 -- ---- its own kind
 
@@ -84,7 +108,7 @@ kind-found : (k : Kind) (f : Form) (v : Value) → inRange k v ≡ true → kind
 unfolding imageIn kindHas hasForm excepted
 kind-found k (text d) v r h g x =
     let l : d ≤ ifAny (timed k) 6 = leb-true _ _ h in
-    kind-text (textImage k d v) (text-first k d v) k d (text-length k d v r (at-most (timed k) d l)) l (λ p q. never (sym (rw (p, eq-eqb d 0 q) at x)))
+    kind-text (textImage k d v) (text-first k d v) k d (text-length k d v r (at-most (timed k) d l)) l (text-sign k d v)
 kind-found k compact v r h g x =
     let c : carried k v ≡ zoned k = unfold carried in carried-own (zoned k) (timed k) (eqb (natAbs (v .offset)) 0) x in
     kind-compact k (compactImage k v) (rw c at (compact-seen k v g))
@@ -130,7 +154,7 @@ plain-family TimeTz = refl
 plain-family Datetime = refl
 plain-family DatetimeTz = refl
 
--- ---- the first exception: compact with offset zero
+-- ---- the exception: compact with offset zero
 
 module _ (k : Kind) (v : Value) (p : both (zoned k) (timed k) ≡ true) (o : natAbs (v .offset) ≡ 0) where
   carried-no : carried k v ≡ false
@@ -177,27 +201,3 @@ module _ (k : Kind) (v : Value) (p : both (zoned k) (timed k) ≡ true) (o : nat
       let e : readEither (familyOf (plainOf k)) (compactImage (plainOf k) v) ≡ accepted (answered (plainOf k) compact (cut (plainOf k) compact v)) =
       unfold imageIn kindHas hasForm in own-kind (plainOf k) compact v (range-plain r) refl (has-plain h) plain-excepted in
       rw (plain-family k, image-plain, cut-plain) at e
-
--- ---- the second exception: text without fraction
-
-not-point : (b : Bool) → eqb (pick (eqb (pick b 0 1) 0) 43 45) 46 ≡ false
-not-point true = refl
-not-point false = refl
-
--- where a sign stands and a point should
-no-fit-time : (v : Value) → fit (layout Time 5) (textImage TimeTz 0 v) 0 ≡ false
-unfolding fit layout width fitsAt textImage textNumbers puts put digitsOf
-no-fit-time v = simp (not-point, both-false)
-
-no-fit-datetime : (v : Value) → fit (layout Datetime 5) (textImage DatetimeTz 0 v) 0 ≡ false
-unfolding fit layout width fitsAt textImage textNumbers puts put digitsOf
-no-fit-datetime v = simp (not-point, both-false)
-
-pub exception-text : (k : Kind) (v : Value) → both (zoned k) (timed k) ≡ true → inRange k v ≡ true → readEither (familyOf k) (textImage k 0 v) ≡ refused 6
-unfolding readEither kindIn read formIn readIn readText readFields textLength layout widths width longestPlain headBits digitsFound digitsFrom
-exception-text Date v p r = never p
-exception-text DateTz v p r = never p
-exception-text Time v p r = never p
-exception-text TimeTz v p r = rw (text-length TimeTz 0 v r (omega arith), text-first TimeTz 0 v, no-fit-time v)
-exception-text Datetime v p r = never p
-exception-text DatetimeTz v p r = rw (text-length DatetimeTz 0 v r (omega arith), text-first DatetimeTz 0 v, no-fit-datetime v)

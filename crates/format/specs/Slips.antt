@@ -5,7 +5,8 @@
 --   SlipsText    texts, written and read
 --   SlipsBinary  the other two forms, written and read
 --   SlipsForms   the form that is written, at 01's version and digits and just below them
---   SlipsKept    what a form keeps, and the exceptions of the either-or readers
+--   SlipsKept    what a form keeps
+--   SlipsChosen  the kind that an either-or reader chooses, and where it is not the one that was written
 --   SlipsDays    leap years, month ends and year starts
 use Prim.Native.Nat.{ℕ, suc}
 use mathlib.Core.Path.{_≡_}
@@ -19,7 +20,7 @@ use Rattle.format.specs.Values.{Kind, Date, DateTz, Time, TimeTz, Dateti
 use Rattle.format.specs.Choice.{formFor, settingsFor}
 use Rattle.format.specs.Writing.{encode}
 use Rattle.format.specs.Reading.{read}
-use Rattle.format.specs.EitherOr.{excepted}
+use Rattle.format.specs.EitherOr.{TimeOrTz, DatetimeOrTz, kindIn, readEither, excepted}
 use Rattle.format.specs.Keeping.{cut}
 use Rattle.format.specs.Bench.{ascii, of}
 
@@ -112,11 +113,30 @@ SlipsKept =
     × (cut Time compact (of 0 0 0 86400000000 (pos 0)) ≡ of 0 0 0 86400000000 (pos 0))
     -- text with digits 2 keeps 12:34:56.78 of 12:34:56.789012
     × (cut Time (text 2) (of 0 0 0 45296789012 (pos 0)) ≡ of 0 0 0 45296780000 (pos 0))
-    -- zoned text without fraction, not with one; compact with offset zero, not with -00:30; never extended
-    × (excepted TimeTz (text 0) (of 0 0 0 0 (pos 270)) ≡ true)
-    × (excepted TimeTz (text 1) (of 0 0 0 0 (pos 270)) ≡ false)
+
+-- 02, request 1: "01's 14-octet case reads as TimeTz; other choices stand"
+abbrev pub SlipsChosen : Type 0
+SlipsChosen =
+    -- a zoned text without fraction is its own kind, whichever sign it has
+    (readEither TimeOrTz (ascii "12:00:00+04:30") ≡ reads TimeTz (text 0) (of 0 0 0 43200000000 (pos 270)))
+    × (readEither TimeOrTz (ascii "12:00:00-04:30") ≡ reads TimeTz (text 0) (of 0 0 0 43200000000 (negsuc 269)))
+    × (readEither DatetimeOrTz (ascii "2020-02-29T12:34:56+04:30") ≡ reads DatetimeTz (text 0) (of 2020 2 29 45296000000 (pos 270)))
+    × (readEither DatetimeOrTz (ascii "2020-02-29T12:34:56-00:30") ≡ reads DatetimeTz (text 0) (of 2020 2 29 45296000000 (negsuc 29)))
+    -- as many octets with a point are plain, whatever stands behind it
+    × (readEither TimeOrTz (ascii "12:00:00.00001") ≡ reads Time (text 5) (of 0 0 0 43200000010 (pos 0)))
+    × (readEither TimeOrTz (ascii "12:00:00.+4:30") ≡ refused 6)
+    × (readEither DatetimeOrTz (ascii "2020-02-29T12:34:56.00001") ≡ reads Datetime (text 5) (of 2020 2 29 45296000010 (pos 0)))
+    -- what is damaged is refused as a TimeTz
+    × (readEither TimeOrTz (ascii "99:00:00+04:30") ≡ refused 8)
+    × (readEither TimeOrTz (ascii "12:00:00-00:00") ≡ refused 7)
+    -- 14 octets with the first bits 1000 are a text, with 1001 extended; of 25 octets these bits come first
+    × (readEither TimeOrTz (0x80 ∷ ascii "2:00:00+04:30") ≡ refused 6)
+    × (readEither TimeOrTz (0x90 ∷ ascii "2:00:00+04:30") ≡ refused 5)
+    × (kindIn DatetimeOrTz (0x8F ∷ ascii "020-02-29T12:34:56-00:30") ≡ Datetime)
+    -- the exception: compact with offset zero, not with -00:30; never text, never extended
     × (excepted DatetimeTz compact (of 2020 1 1 0 (pos 0)) ≡ true)
     × (excepted DatetimeTz compact (of 2020 1 1 0 (negsuc 29)) ≡ false)
+    × (excepted TimeTz (text 0) (of 0 0 0 0 (pos 270)) ≡ false)
     × (excepted DatetimeTz extended (of 2020 1 1 0 (pos 0)) ≡ false)
 
 abbrev pub day : ℕ → ℕ → ℕ → Day

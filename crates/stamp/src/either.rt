@@ -1,4 +1,4 @@
-// The kind that an either-or reader chooses. (01, How a reader chooses: the first rule that fits.)
+// The kind that an either-or reader chooses: the first rule that fits. (01, How a reader chooses; 02, request 1.)
 ghost use mathlib.Core.Path.{_≡_};
 ghost use Prim.Native.Nat.{_<_};
 ghost use lib.ListN.{length};
@@ -38,6 +38,9 @@ pub fn time_kind(s: &[u8]) -> Kind
     if n == 7 {
         return time_kind_of_seven(s);
     }
+    if n == 14 && text::is_sign(s[8]) {
+        return Kind::TimeTz;
+    }
     if n <= 15 {
         return Kind::Time;
     }
@@ -70,6 +73,9 @@ pub fn datetime_kind(s: &[u8]) -> Kind
         return Kind::Datetime;
     }
     if bits == 9 {
+        return Kind::DatetimeTz;
+    }
+    if n == 25 && text::is_sign(s[19]) {
         return Kind::DatetimeTz;
     }
     if n <= 26 {

@@ -10,6 +10,7 @@ mod words;
 mod writers;
 mod writing;
 
+pub use parts::is_sign;
 pub use reading::read_date;
 pub use reading::read_date_tz;
 pub use reading::read_datetime;

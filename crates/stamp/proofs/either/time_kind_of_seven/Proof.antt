@@ -9,17 +9,17 @@ use borrow.Author.Tests.{eq-eqb, ne-eqb}
 use Rattle.format.specs.Words.{pick}
 use Rattle.format.specs.Values.{Kind, Time, TimeTz}
 use Rattle.format.specs.Reading.{firstBits}
-use Rattle.format.specs.EitherOr.{TimeOrTz, kindIn}
+use Rattle.format.specs.EitherOr.{TimeOrTz, kindBy01, kindIn}
 use borrow.Author.Needs.{needs}
 use Rattle.stamp.proofs.either.time_kind_of_seven.Statement.{statement}
 use Rattle.stamp.proofs.either.time_kind_of_seven.Tie as tie
 
 zoned : (s : List ℕ) → length s ≡ 7 → getD s 0 0 / 16 ≡ 9 → TimeTz ≡ kindIn TimeOrTz s
-unfolding kindIn firstBits
+unfolding kindIn kindBy01 firstBits
 zoned s l b = rw (l, b)
 
 plain : (s : List ℕ) → length s ≡ 7 → (getD s 0 0 / 16 ≡ 9 → ⊥) → Time ≡ kindIn TimeOrTz s
-unfolding kindIn firstBits
+unfolding kindIn kindBy01 firstBits
 plain s l b = rw (l, ne-eqb (getD s 0 0 / 16) 9 b) (go (eqb (getD s 0 0 / 16) 8))
   where
     go : (e : Bool) → Time ≡ pick e Time Time
