@@ -24,11 +24,13 @@
 #include <stdbool.h>
 #endif
 
-#define STAMP_RELEASE "1.0"
+#define STAMP_RELEASE "1.1"
 
 /* ---- Kinds, forms, limits ---- */
 
-/* What a stamp says. Writers know the first six, readers all nine. */
+/* What a stamp says. Writers know the first six, readers all nine. Where the octets tell which of the two it is, what was
+ * written reads back as its own kind; but compact leaves an offset of zero out, and a TimeTz or DatetimeTz written so
+ * reads as a Time or Datetime. */
 enum {
     STAMP_DATE = 0,                    /* year, month, day */
     STAMP_DATETZ = 1,                  /* a date and an offset from UTC */

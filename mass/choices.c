@@ -27,21 +27,30 @@ static void read_behind_first_bits(image in)
     }
 }
 
-/* A unit is a kind and a number of digits: a text of each sign, and the same with an octet less and one more. */
+/* The text of a value, and the same with an octet less and one more. */
+static void read_text_of(uint32_t kind, int32_t offset, uint32_t digits)
+{
+    const stamp_value value = stamp_make_value(kind, 2020, 2, 29, 45296789012, offset);
+    image text;
+    if (!check_write(&value, as_text(digits), LONGEST_TRIED, &text))
+        return;
+    read_behind_first_bits(text);
+    text.length--;
+    read_behind_first_bits(text);
+    text.length++;
+    add_octet(&text, '0');
+    read_behind_first_bits(text);
+}
+
+/* A unit is a kind and a number of digits; a kind without a time has one text for all of them. Of an offset both signs. */
 void try_choices(uint64_t unit, chance *by)
 {
-    static const int32_t offsets[] = {270, -30};
+    const uint32_t kind = (uint32_t)(unit % STAMP_KINDS), digits = (uint32_t)(unit / STAMP_KINDS);
+    const bool timed = kind >= STAMP_TIME, zoned = kind % 2 != 0;
     (void)by;
-    for (int i = 0; i < 2; i++) {
-        const stamp_value value = stamp_make_value((uint32_t)(unit % STAMP_KINDS), 2020, 2, 29, 45296789012, offsets[i]);
-        image text;
-        if (!check_write(&value, as_text((uint32_t)(unit / STAMP_KINDS)), LONGEST_TRIED, &text))
-            return;
-        read_behind_first_bits(text);
-        text.length--;
-        read_behind_first_bits(text);
-        text.length++;
-        add_octet(&text, '0');
-        read_behind_first_bits(text);
-    }
+    if (!timed && digits > 0)
+        return;
+    read_text_of(kind, 270, digits);
+    if (zoned)
+        read_text_of(kind, -30, digits);
 }

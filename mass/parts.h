@@ -3,6 +3,7 @@
 #define MASS_PARTS_H
 
 #include "chance.h"
+#include "stamp.h"
 
 #define DATE_UNITS 10001               /* short.c to chances.c say what a unit is */
 #define DAY_NUMBER_UNITS 256
@@ -12,7 +13,7 @@
 #define TEXT_FIELD_UNITS 100
 #define MILLISECOND_UNITS 86401
 #define FRACTION_UNITS 1000
-#define CHOICE_UNITS 42
+#define CHOICE_UNITS (STAMP_KINDS * (STAMP_MAX_DIGITS + 1))
 #define CHANCE_ROUNDS 10000            /* rounds in a unit of those by chance */
 
 void try_short(uint64_t unit, chance *by);

@@ -236,7 +236,7 @@ static void report_stamps(uint32_t kind, uint32_t form)
     report(name, reading, r);
 }
 
-/* As two sites write it: whether there is an offset shows in the length and the octet behind the seconds. */
+/* 02, request 1: of a text with an offset the either-or readers also look at the octet behind the seconds. */
 static void report_without_fraction(uint32_t kind)
 {
     const work reading = {read_ours, read_plain, read_same};

@@ -177,7 +177,8 @@ INLINE bool is_sign(uint8_t octet)
     return octet == '+' || octet == '-';
 }
 
-/* The kind that an either-or kind stands for. */
+/* The kind that an either-or kind stands for. A zoned text without a fraction is as long as a plain one with five
+ * digits: the octet behind the seconds tells them apart. */
 INLINE uint32_t chosen_kind(uint32_t kind, const uint8_t *octets, size_t length)
 {
     switch (kind) {

@@ -18,8 +18,8 @@ sys.path.insert(0, str(ROOT / 'tool' / 'tests'))
 from transcripts import README, readme_cases, tried  # noqa: E402
 
 # What is installed, each file with its mode, each link with where it leads.
-INSTALLED = {'bin/stamp': '755', 'include/stamp.h': '644', 'lib/libstamp.a': '644', 'lib/libstamp.so': 'libstamp.so.1', 'lib/libstamp.so.1': 'libstamp.so.1.0',
-             'lib/libstamp.so.1.0': '755', 'lib/pkgconfig/stamp.pc': '644', 'share/man/man1/stamp.1': '644'}
+INSTALLED = {'bin/stamp': '755', 'include/stamp.h': '644', 'lib/libstamp.a': '644', 'lib/libstamp.so': 'libstamp.so.1', 'lib/libstamp.so.1': 'libstamp.so.1.1',
+             'lib/libstamp.so.1.1': '755', 'lib/pkgconfig/stamp.pc': '644', 'share/man/man1/stamp.1': '644'}
 passed = failed = 0
 
 
@@ -72,7 +72,7 @@ class Installation:
         own = str(self.library.relative_to(self.root)) + '/'
         self.files = {name.replace('lib/', own, 1) if name.startswith('lib/') else name: mode for name, mode in INSTALLED.items()}
         self.pc = ['prefix=' + str(prefix), 'libdir=' + str(libdir).replace(f'{prefix}/', '${prefix}/'), 'Name: stamp',
-                   'Description: dates and times in the BDE BER date-and-time format, proved', 'Version: 1.0',
+                   'Description: dates and times in the BDE BER date-and-time format, proved', 'Version: 1.1',
                    'Cflags: -I${prefix}/include', 'Libs: -L${libdir} -lstamp']
 
 
@@ -86,7 +86,7 @@ def try_install(each):
     make('install', *each.words)
     expect(f'what is installed by {each.words}', each.files, files_in(each.root))
     expect(f'stamp.pc after {each.words}', each.pc, (each.library / 'pkgconfig/stamp.pc').read_text().splitlines())
-    expect('the release', 'stamp 1.0\n', output(str(each.root / 'bin/stamp'), '-V')[0])
+    expect('the release', 'stamp 1.1\n', output(str(each.root / 'bin/stamp'), '-V')[0])
 
 
 def try_uninstall(each):
@@ -99,7 +99,7 @@ def try_uninstall(each):
 
 
 def try_shared(prefix):
-    shared = prefix / 'lib/libstamp.so.1.0'
+    shared = prefix / 'lib/libstamp.so.1.1'
     expect('the soname', ['libstamp.so.1'], dynamic(shared, 'SONAME'))
     expect('libraries that the library needs', [], dynamic(shared, 'NEEDED'))
     printed, _ = output('nm', '-D', '--defined-only', str(shared))
@@ -111,7 +111,7 @@ def try_readme(scratch, prefix):
     """The README's commands but those of the tool, as they stand, in a folder that has what the repository's root has."""
     root = scratch / 'root'
     root.mkdir()
-    for name in ('include', 'examples', 'libstamp.a', 'libstamp.so.1.0'):
+    for name in ('include', 'examples', 'libstamp.a', 'libstamp.so.1.1'):
         (root / name).symlink_to(ROOT / name)
     environment = dict(PKG_CONFIG_PATH=f'{prefix}/lib/pkgconfig', LD_LIBRARY_PATH=f'{prefix}/lib')
     linked = {'-static': [], '--libs': ['libstamp.so.1'], 'libstamp.a': []}

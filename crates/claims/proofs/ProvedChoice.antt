@@ -9,17 +9,17 @@ use lib.Dec.{leb, eqb}
 use lib.ListN.{length, getD}
 use borrow.Author.Tests.{le-leb, lt-leb, leb-true, eq-eqb, ne-eqb, eqb-true}
 use Rattle.format.specs.Words.{pick, both, either, Outcome, accepted, refused}
-use Rattle.format.specs.Values.{Kind, Time, TimeTz, Datetime, DatetimeTz, zoned, Answer}
+use Rattle.format.specs.Values.{Kind, Time, TimeTz, Datetime, DatetimeTz, zoned, Value, Form, text, Answer}
 use Rattle.format.specs.Fields.{width, widths, fitsAt, fit}
 use Rattle.format.specs.Text.{layout, textLength}
 use Rattle.format.specs.TextReading.{digitsFrom, digitsFound, readFields, readText}
 use Rattle.format.specs.CompactReading.{longestPlain}
 use Rattle.format.specs.Extended.{headBits, dayWidth, readExtended}
-use Rattle.format.specs.Reading.{firstBits, formIn, readIn, read}
+use Rattle.format.specs.Reading.{firstBits, formIn, readIn, answer, read}
 use Rattle.format.specs.EitherOr.{Family, DateOrTz, TimeOrTz, DatetimeOrTz, kindBy01, kindIn, readEither}
-use Rattle.format.proofs.Cases.{cases, lt-or-le, eq-or-ne, both-true, both-false, never}
+use Rattle.format.proofs.Cases.{cases, lt-or-le, eq-or-ne, both-true, both-false, same, never}
 use Rattle.claims.specs.ReaderRefusals.{between}
-use Rattle.claims.specs.PlainNumbers.{bits1000, bits1001, twentiethIsSign, ChosenDate, ChosenTime, ChosenDatetime, ChosenKind, moves, OtherChoicesStand, NoStampLost}
+use Rattle.claims.specs.PlainNumbers.{bits1000, bits1001, twentyFiveWithSign, ChosenDate, ChosenTime, ChosenDatetime, ChosenKind, moves, OtherChoicesStand, NoStampLost, NewStamps}
 
 -- ---- the choice
 
@@ -65,7 +65,7 @@ module _ (s : List ℕ) where
   other m h = ne-eqb (length s) m h
 
   -- 25 octets
-  of-25 : twentiethIsSign s ≡ true → length s ≡ 25
+  of-25 : twentyFiveWithSign s ≡ true → length s ≡ 25
   of-25 e = eqb-true (length s) 25 (both-true (eqb (length s) 25) (either (eqb (getD s 19 0) 0x2B) (eqb (getD s 19 0) 0x2D)) e .0)
 
   chosen-date : ChosenDate s (length s)
@@ -94,8 +94,8 @@ module _ (s : List ℕ) where
   chosen-datetime = (
     λ h. rw (other 25 (λ e. omega arith), few 6 h),
     λ g h. rw (other 25 (λ e. omega arith), many 6 g, few 9 h),
-    λ g b. rw (is-1000, b, both-false (twentiethIsSign s), many 6 (omega arith), many 9 g),
-    λ g b. rw (is-1000, is-1001, not-1000 b, b, both-false (twentiethIsSign s), many 6 (omega arith), many 9 g),
+    λ g b. rw (is-1000, b, both-false (twentyFiveWithSign s), many 6 (omega arith), many 9 g),
+    λ g b. rw (is-1000, is-1001, not-1000 b, b, both-false (twentyFiveWithSign s), many 6 (omega arith), many 9 g),
     λ b n. rw (is-1000, is-1001, b, n, of-25 n) (either-way (bits1001 s)),
     λ g h b n. rw (n, many 6 (omega arith), many 9 g, is-1000, is-1001, b, few 26 h) (alike (bits1000 s) Datetime),
     λ g b. rw (other 25 (λ e. omega arith), many 6 (omega arith), many 9 (omega arith), is-1000, is-1001, b, many 26 g) (alike (bits1001 s) DatetimeTz),
@@ -126,7 +126,7 @@ moved-time s m =
 moved-datetime : (s : List ℕ) → moves DatetimeOrTz s ≡ true → (kindBy01 DatetimeOrTz s ≡ Datetime) × (kindIn DatetimeOrTz s ≡ DatetimeTz)
 unfolding kindBy01
 moved-datetime s m =
-    let t = both-true (twentiethIsSign s) (not (either (bits1000 s) (bits1001 s))) m in
+    let t = both-true (twentyFiveWithSign s) (not (either (bits1000 s) (bits1001 s))) m in
     let n = neither (bits1000 s) (bits1001 s) (t .1) in
     (rw (of-25 s (t .0), is-1000 s, is-1001 s, n .0, n .1), chosen-datetime s .4 (n .0) (t .0))
 
@@ -176,7 +176,7 @@ refused-time s m =
 refused-datetime : (s : List ℕ) → moves DatetimeOrTz s ≡ true → (read Datetime s ≡ refused 5) ⊎ (read Datetime s ≡ refused 6)
 unfolding read formIn readIn readText readFields readExtended textLength layout widths width longestPlain headBits dayWidth digitsFound digitsFrom
 refused-datetime s m =
-    let t = both-true (twentiethIsSign s) (not (either (bits1000 s) (bits1001 s))) m .0 in
+    let t = both-true (twentyFiveWithSign s) (not (either (bits1000 s) (bits1001 s))) m .0 in
     let b = both-true (eqb (length s) 25) (either (eqb (getD s 19 0) 0x2B) (eqb (getD s 19 0) 0x2D)) t in
     ⊎-elim (λ (x : eqb (firstBits s) 8 ≡ true). inl (rw (of-25 s t, x, of-25 s t))) (λ (x : eqb (firstBits s) 8 ≡ false). inr (rw (of-25 s t, x, unfit-datetime s (no-point (getD s 19 0) (b .1))))) (cases (eqb (firstBits s) 8))
 
@@ -194,3 +194,35 @@ lost DatetimeOrTz s a m p = not-accepted (read Datetime s) a (refused-datetime s
 pub no-stamp-lost : NoStampLost
 unfolding readEither
 no-stamp-lost e s a p = ⊎-elim (λ m. lost e s a m p) (λ n. rw (stands e s .1 n) p) (cases (moves e s))
+
+-- ---- and what is found now is a text without fraction
+
+-- an answer is under the kind and form in which it was read
+under : (k : Kind) (f : Form) (o : Outcome Value) (a : Answer) → answer k f o ≡ accepted a → (a .kind ≡ k) × (a .form ≡ f)
+under k f (accepted v) a p = (ap (λ (x : Answer). x .kind) (sym (same p)), ap (λ (x : Answer). x .form) (sym (same p)))
+under k f (refused n) a p = let z : _≡_ {A = ℕ} 0 1 = cc in absurd (omega arith)
+
+-- so many octets of this kind are a text without fraction, or refused
+only-text : (k : Kind) (s : List ℕ) (a : Answer) → zoned k ≡ true → (read k s ≡ refused 5) ⊎ (formIn k s ≡ text 0) → read k s ≡ accepted a → (zoned (a .kind) ≡ true) × (a .form ≡ text 0)
+unfolding read
+only-text k s a z w p =
+    ⊎-elim (λ (r : read k s ≡ refused 5). not-accepted (read k s) a (inl r) p)
+    (λ (f : formIn k s ≡ text 0). let q = under k (formIn k s) (readIn k (formIn k s) s) a p in (rw (q .0) z, q .1 ∙ f)) w
+
+text-14 : (s : List ℕ) → length s ≡ 14 → (read TimeTz s ≡ refused 5) ⊎ (formIn TimeTz s ≡ text 0)
+unfolding read formIn readIn readExtended textLength layout widths width longestPlain headBits dayWidth digitsFound digitsFrom
+text-14 s l =
+    ⊎-elim (λ (x : eqb (firstBits s) 9 ≡ true). inl (rw (l, x, l))) (λ (x : eqb (firstBits s) 9 ≡ false). inr (rw (l, x))) (cases (eqb (firstBits s) 9))
+
+text-25 : (s : List ℕ) → length s ≡ 25 → (read DatetimeTz s ≡ refused 5) ⊎ (formIn DatetimeTz s ≡ text 0)
+unfolding read formIn readIn readExtended textLength layout widths width longestPlain headBits dayWidth digitsFound digitsFrom
+text-25 s l =
+    ⊎-elim (λ (x : eqb (firstBits s) 9 ≡ true). inl (rw (l, x, l))) (λ (x : eqb (firstBits s) 9 ≡ false). inr (rw (l, x))) (cases (eqb (firstBits s) 9))
+
+pub new-stamps : NewStamps
+unfolding readEither
+new-stamps DateOrTz s a m p = never m
+new-stamps TimeOrTz s a m p =
+    only-text TimeTz s a refl (text-14 s (eqb-true (length s) 14 (both-true (eqb (length s) 14) _ m .0))) (rw (moved-time s m .1) at p)
+new-stamps DatetimeOrTz s a m p =
+    only-text DatetimeTz s a refl (text-25 s (of-25 s (both-true (twentyFiveWithSign s) _ m .0))) (rw (moved-datetime s m .1) at p)

@@ -79,12 +79,12 @@ abbrev pub bits1001 : List ℕ → Bool
 bits1001 s = between 0x90 0x9F (getD s 0 0)
 
 -- 02, request 1: "14 octets whose ninth is `+` or `-`",
-abbrev pub ninthIsSign : List ℕ → Bool
-ninthIsSign s = both (eqb (length s) 14) (either (eqb (getD s 8 0) 0x2B) (eqb (getD s 8 0) 0x2D))
+abbrev pub fourteenWithSign : List ℕ → Bool
+fourteenWithSign s = both (eqb (length s) 14) (either (eqb (getD s 8 0) 0x2B) (eqb (getD s 8 0) 0x2D))
 
 -- and "25 octets whose twentieth is `+` or `-`"
-abbrev pub twentiethIsSign : List ℕ → Bool
-twentiethIsSign s = both (eqb (length s) 25) (either (eqb (getD s 19 0) 0x2B) (eqb (getD s 19 0) 0x2D))
+abbrev pub twentyFiveWithSign : List ℕ → Bool
+twentyFiveWithSign s = both (eqb (length s) 25) (either (eqb (getD s 19 0) 0x2B) (eqb (getD s 19 0) 0x2D))
 
 -- "Either-or, first rule that fits." Of s, n octets,
 -- "Date: up to 3 plain, up to 5 zoned, up to 10 plain, else zoned."
@@ -102,8 +102,8 @@ ChosenTime s n =
     × (5 ≤ n → n ≤ 6 → kindIn TimeOrTz s ≡ TimeTz)
     × (n ≡ 7 → bits1001 s ≡ true → kindIn TimeOrTz s ≡ TimeTz)
     × (n ≡ 7 → bits1001 s ≡ false → kindIn TimeOrTz s ≡ Time)
-    × (ninthIsSign s ≡ true → kindIn TimeOrTz s ≡ TimeTz)
-    × (8 ≤ n → n ≤ 15 → ninthIsSign s ≡ false → kindIn TimeOrTz s ≡ Time)
+    × (fourteenWithSign s ≡ true → kindIn TimeOrTz s ≡ TimeTz)
+    × (8 ≤ n → n ≤ 15 → fourteenWithSign s ≡ false → kindIn TimeOrTz s ≡ Time)
     × (16 ≤ n → kindIn TimeOrTz s ≡ TimeTz)
 
 -- "Datetime: up to 6 plain; up to 9 zoned; bits 1000 plain; bits 1001 zoned; [02: 25 octets whose twentieth is a sign zoned;] up to 26 plain; else zoned."
@@ -113,18 +113,19 @@ ChosenDatetime s n =
     × (7 ≤ n → n ≤ 9 → kindIn DatetimeOrTz s ≡ DatetimeTz)
     × (10 ≤ n → bits1000 s ≡ true → kindIn DatetimeOrTz s ≡ Datetime)
     × (10 ≤ n → bits1001 s ≡ true → kindIn DatetimeOrTz s ≡ DatetimeTz)
-    × (bits1000 s ≡ false → twentiethIsSign s ≡ true → kindIn DatetimeOrTz s ≡ DatetimeTz)
-    × (10 ≤ n → n ≤ 26 → bits1001 s ≡ false → twentiethIsSign s ≡ false → kindIn DatetimeOrTz s ≡ Datetime)
+    × (bits1000 s ≡ false → twentyFiveWithSign s ≡ true → kindIn DatetimeOrTz s ≡ DatetimeTz)
+    × (10 ≤ n → n ≤ 26 → bits1001 s ≡ false → twentyFiveWithSign s ≡ false → kindIn DatetimeOrTz s ≡ Datetime)
     × (27 ≤ n → bits1000 s ≡ false → kindIn DatetimeOrTz s ≡ DatetimeTz)
 
 abbrev pub ChosenKind : Type 0
 ChosenKind = (s : List ℕ) → ChosenDate s (length s) × ChosenTime s (length s) × ChosenDatetime s (length s)
 
--- 02, request 1: "other choices stand". Where request 1 moves 01's choice: for a time wherever its rule fits, for a date-time where 01's of the first bits do not.
+-- 02, request 1: "other choices stand". Where request 1 moves 01's choice: for a time where its rule fits; for a date-time where it
+-- fits and 01's rules of the first bits do not.
 abbrev pub moves : Family → List ℕ → Bool
 moves DateOrTz s = false
-moves TimeOrTz s = ninthIsSign s
-moves DatetimeOrTz s = both (twentiethIsSign s) (not (either (bits1000 s) (bits1001 s)))
+moves TimeOrTz s = fourteenWithSign s
+moves DatetimeOrTz s = both (twentyFiveWithSign s) (not (either (bits1000 s) (bits1001 s)))
 
 -- There and nowhere else the two choices differ: 01's was the plain kind, and the zoned one is chosen now.
 abbrev pub OtherChoicesStand : Type 0
@@ -136,3 +137,7 @@ OtherChoicesStand =
 -- So no stamp is lost: what was accepted by 01's choice is accepted still, with the same answer.
 abbrev pub NoStampLost : Type 0
 NoStampLost = (e : Family) (s : List ℕ) (a : Answer) → read (kindBy01 e s) s ≡ accepted a → readEither e s ≡ accepted a
+
+-- And what is accepted where the choice has moved is a zoned text without fraction.
+abbrev pub NewStamps : Type 0
+NewStamps = (e : Family) (s : List ℕ) (a : Answer) → moves e s ≡ true → readEither e s ≡ accepted a → (zoned (a .kind) ≡ true) × (a .form ≡ text 0)

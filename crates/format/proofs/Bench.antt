@@ -54,7 +54,7 @@ slips-kept = (refl, refl, refl)
 
 pub slips-chosen : SlipsChosen
 unfolding leap monthLength isDay areDigits numberAt width fitsAt saysAt widths fit says layout textLength fractionUnit digitsFrom digitsFound minusZero clockInRange numbersInRange textValue readFields readText longestPlain headBits dayWidth readExtended firstBits formIn readIn read kindBy01 kindIn readEither excepted
-slips-chosen = (refl, refl, refl, refl, refl, refl, refl, refl, refl, refl, refl, refl, refl, refl, refl, refl)
+slips-chosen = (refl, refl, refl, refl, refl, refl, refl, refl, refl, refl, refl, refl, refl, refl, refl, refl, refl, refl, refl, refl, refl, refl, refl, refl, refl, refl, refl)
 
 pub slips-days : SlipsDays
 unfolding sumFrom place leap yearLength monthLength isDay dayNumber dayOf yearStart

@@ -13,14 +13,14 @@ use Rattle.format.specs.Words.{pick, both, needs, ifAny, accepted}
 use Rattle.format.specs.Values.{Kind, Date, DateTz, Time, TimeTz, Datetime, DatetimeTz, dated, timed, zoned, Value, inRange, Form, text, compact, extended}
 use Rattle.format.specs.Choice.{kindHas}
 use Rattle.format.specs.Digits.{digitsOf}
-use Rattle.format.specs.Fields.{width, widths, put, puts}
+use Rattle.format.specs.Fields.{isSign, width, widths, put, puts}
 use Rattle.format.specs.Text.{layout, textLength, textNumbers, textImage}
 use Rattle.format.specs.Compact.{perDay, start, count, number, greatest, carried, hasCompact, paddedTo, numberOctets, compactImage}
 use Rattle.format.specs.CompactReading.{longestPlain, shortest, carriedIn}
 use Rattle.format.specs.Extended.{headBits, dayWidth, extendedImage}
 use Rattle.format.specs.Writing.{imageIn, hasForm}
 use Rattle.format.specs.Reading.{firstBits}
-use Rattle.format.specs.EitherOr.{kindBy01, isSign, kindIn, TimeOrTz, DatetimeOrTz, readEither, familyOf, plainOf, excepted}
+use Rattle.format.specs.EitherOr.{kindBy01, kindIn, TimeOrTz, DatetimeOrTz, readEither, familyOf, plainOf, excepted}
 use Rattle.format.specs.Keeping.{own, cut}
 use Rattle.format.proofs.Cases.{both-true, never, at-most}
 use Rattle.format.proofs.Clock.{seven}

@@ -2,7 +2,6 @@
 --
 --   Family           Date or DateTz; Time or TimeTz; Datetime or DatetimeTz
 --   kindBy01 f s     the kind by 01's rules alone
---   isSign c         the octet is `+` (43) or `-` (45)
 --   kindIn f s       the kind that is chosen: by 01's rules and the rule of request 1
 --   readEither f s   what the either-or reader answers
 --   familyOf k       the family of a kind, and plainOf k its plain kind
@@ -15,6 +14,7 @@ use lib.Dec.{leb, eqb}
 use lib.ListN.{length, getD}
 use Rattle.format.specs.Words.{pick, both, either, Outcome}
 use Rattle.format.specs.Values.{Kind, Date, DateTz, Time, TimeTz, Datetime, DatetimeTz, timed, zoned, Value, Form, text, compact, extended, Answer}
+use Rattle.format.specs.Fields.{isSign}
 use Rattle.format.specs.Reading.{firstBits, read}
 
 pub data Family : Type 0 where
@@ -43,9 +43,6 @@ kindBy01 DatetimeOrTz s =
     (pick (eqb (firstBits s) 9) DatetimeTz
     (pick (leb (length s) 26) Datetime
     DatetimeTz))))
-
-abbrev pub isSign : ℕ → Bool
-isSign c = either (eqb c 43) (eqb c 45)
 
 -- 02, request 1: "14 octets whose ninth is `+` or `-` are chosen as TimeTz, and 25 octets whose twentieth is `+` or `-` as DatetimeTz, each directly ahead of
 -- the rule for up to 15 or up to 26". What stands ahead of these rules is about fewer octets, but for a date-time's first bits; where those fit, 01's rules stand.

@@ -1,5 +1,6 @@
 -- A row of text fields, each with a number. The row says how a text is laid out; writing and reading follow the same row.
 --
+--   isSign c         the octet is `+` (43) or `-` (45)
 --   Field            so many digits; a separator and so many digits after it; a sign; or absent, where a kind has no such field
 --   width, widths    how many octets a field, a row takes
 --   put, puts        how a number, a row of numbers is written
@@ -12,6 +13,9 @@ use lib.Dec.{eqb}
 use lib.ListN.{getD}
 use Rattle.format.specs.Words.{pick, both, either}
 use Rattle.format.specs.Digits.{areDigits, numberAt, digitsOf}
+
+abbrev pub isSign : ℕ → Bool
+isSign c = either (eqb c 43) (eqb c 45)
 
 pub data Field : Type 0 where
   digits : ℕ → Field
@@ -41,7 +45,7 @@ put absent v = []
 unfoldable pub fitsAt : Field → List ℕ → ℕ → Bool
 fitsAt (digits n) s at = areDigits s at n
 fitsAt (after c n) s at = both (eqb (getD s at 0) c) (areDigits s (suc at) n)
-fitsAt sign s at = either (eqb (getD s at 0) 43) (eqb (getD s at 0) 45)
+fitsAt sign s at = isSign (getD s at 0)
 fitsAt absent s at = true
 
 unfoldable pub saysAt : Field → List ℕ → ℕ → ℕ

@@ -20,7 +20,7 @@ use Rattle.format.specs.Values.{Kind, Date, DateTz, Time, TimeTz, Dateti
 use Rattle.format.specs.Choice.{formFor, settingsFor}
 use Rattle.format.specs.Writing.{encode}
 use Rattle.format.specs.Reading.{read}
-use Rattle.format.specs.EitherOr.{TimeOrTz, DatetimeOrTz, kindIn, readEither, excepted}
+use Rattle.format.specs.EitherOr.{TimeOrTz, DatetimeOrTz, kindBy01, kindIn, readEither, excepted}
 use Rattle.format.specs.Keeping.{cut}
 use Rattle.format.specs.Bench.{ascii, of}
 
@@ -122,21 +122,34 @@ SlipsChosen =
     × (readEither TimeOrTz (ascii "12:00:00-04:30") ≡ reads TimeTz (text 0) (of 0 0 0 43200000000 (negsuc 269)))
     × (readEither DatetimeOrTz (ascii "2020-02-29T12:34:56+04:30") ≡ reads DatetimeTz (text 0) (of 2020 2 29 45296000000 (pos 270)))
     × (readEither DatetimeOrTz (ascii "2020-02-29T12:34:56-00:30") ≡ reads DatetimeTz (text 0) (of 2020 2 29 45296000000 (negsuc 29)))
-    -- as many octets with a point are plain, whatever stands behind it
+    -- by 01's rules alone it was plain
+    × (kindBy01 TimeOrTz (ascii "12:00:00+04:30") ≡ Time)
+    × (kindBy01 DatetimeOrTz (ascii "2020-02-29T12:34:56-00:30") ≡ Datetime)
+    -- as many octets with a point are plain, whatever stands behind it; nor is a comma a sign
     × (readEither TimeOrTz (ascii "12:00:00.00001") ≡ reads Time (text 5) (of 0 0 0 43200000010 (pos 0)))
     × (readEither TimeOrTz (ascii "12:00:00.+4:30") ≡ refused 6)
+    × (kindIn TimeOrTz (ascii "12:00:00,04:30") ≡ Time)
     × (readEither DatetimeOrTz (ascii "2020-02-29T12:34:56.00001") ≡ reads Datetime (text 5) (of 2020 2 29 45296000010 (pos 0)))
-    -- what is damaged is refused as a TimeTz
+    × (kindIn DatetimeOrTz (ascii "2020-02-29T12:34:56,04:30") ≡ Datetime)
+    -- an octet less or more is plain, as before
+    × (kindIn TimeOrTz (ascii "12:00:00+04:3") ≡ Time)
+    × (kindIn TimeOrTz (ascii "12:00:00+04:300") ≡ Time)
+    × (kindIn DatetimeOrTz (ascii "2020-02-29T12:34:56+04:3") ≡ Datetime)
+    × (kindIn DatetimeOrTz (ascii "2020-02-29T12:34:56+04:300") ≡ Datetime)
+    -- what is damaged elsewhere is refused as the zoned kind
     × (readEither TimeOrTz (ascii "99:00:00+04:30") ≡ refused 8)
     × (readEither TimeOrTz (ascii "12:00:00-00:00") ≡ refused 7)
-    -- 14 octets with the first bits 1000 are a text, with 1001 extended; of 25 octets these bits come first
+    × (readEither DatetimeOrTz (ascii "2020-02-30T12:34:56+04:30") ≡ refused 8)
+    × (readEither DatetimeOrTz (ascii "2020-02-29T12:34:56-00:00") ≡ refused 7)
+    × (kindIn DatetimeOrTz (ascii "x020-02-29T12:34:56-00:30") ≡ DatetimeTz)
+    -- 14 octets with a sign and the first bits 1000 are a text, with 1001 extended; of 25 octets these bits come first
     × (readEither TimeOrTz (0x80 ∷ ascii "2:00:00+04:30") ≡ refused 6)
     × (readEither TimeOrTz (0x90 ∷ ascii "2:00:00+04:30") ≡ refused 5)
     × (kindIn DatetimeOrTz (0x8F ∷ ascii "020-02-29T12:34:56-00:30") ≡ Datetime)
     -- the exception: compact with offset zero, not with -00:30; never text, never extended
     × (excepted DatetimeTz compact (of 2020 1 1 0 (pos 0)) ≡ true)
     × (excepted DatetimeTz compact (of 2020 1 1 0 (negsuc 29)) ≡ false)
-    × (excepted TimeTz (text 0) (of 0 0 0 0 (pos 270)) ≡ false)
+    × (excepted TimeTz (text 0) (of 0 0 0 0 (pos 0)) ≡ false)
     × (excepted DatetimeTz extended (of 2020 1 1 0 (pos 0)) ≡ false)
 
 abbrev pub day : ℕ → ℕ → ℕ → Day

@@ -1,4 +1,5 @@
 // The kind that an either-or reader chooses: the first rule that fits. (01, How a reader chooses; 02, request 1.)
+// A zoned text without a fraction is as long as a plain one with five digits: the octet behind the seconds tells them apart.
 ghost use mathlib.Core.Path.{_≡_};
 ghost use Prim.Native.Nat.{_<_};
 ghost use lib.ListN.{length};

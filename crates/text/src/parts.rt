@@ -2,7 +2,8 @@
 ghost use mathlib.Core.Path.{_≡_};
 ghost use Prim.Native.Nat.{_+_, _*_, _≤_};
 ghost use lib.Dec.{leb, eqb};
-ghost use Rattle.format.specs.Words.{both, either};
+ghost use Rattle.format.specs.Words.{both};
+ghost use Rattle.format.specs.Fields.{isSign};
 ghost use Rattle.text.specs.Parts.{clockInDay, offsetOf};
 use values::Offset;
 use values::Time;
@@ -32,7 +33,7 @@ pub struct Zone {
 
 // `+` or `-`.
 pub fn is_sign(octet: u8) -> bool
-    ensures { λ r. ⌜ r ≡ either (eqb octet 43) (eqb octet 45) ⌝ }
+    ensures { λ r. ⌜ r ≡ isSign octet ⌝ }
 {
     match octet {
         PLUS => true,

@@ -7,8 +7,9 @@ use lib.Dec.{eqb}
 use lib.ListN.{length, getD}
 use borrow.Author.Tests.{le-leb, lt-leb, eq-eqb, ne-eqb}
 use Rattle.format.specs.Words.{both}
+use Rattle.format.specs.Fields.{isSign}
 use Rattle.format.specs.Reading.{firstBits}
-use Rattle.format.specs.EitherOr.{kindBy01, isSign, kindIn}
+use Rattle.format.specs.EitherOr.{kindBy01, kindIn}
 use Rattle.format.proofs.Cases.{both-false}
 use borrow.Author.Needs.{needs}
 use Rattle.stamp.proofs.either.datetime_kind.Statement.{statement}

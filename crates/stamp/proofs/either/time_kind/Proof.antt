@@ -7,7 +7,8 @@ use lib.Dec.{eqb}
 use lib.ListN.{length, getD}
 use borrow.Author.Tests.{le-leb, lt-leb, ne-eqb}
 use Rattle.format.specs.Words.{both}
-use Rattle.format.specs.EitherOr.{kindBy01, isSign, kindIn}
+use Rattle.format.specs.Fields.{isSign}
+use Rattle.format.specs.EitherOr.{kindBy01, kindIn}
 use Rattle.format.proofs.Cases.{both-false}
 use borrow.Author.Needs.{needs}
 use Rattle.stamp.proofs.either.time_kind.Statement.{statement}
