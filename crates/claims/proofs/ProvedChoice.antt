@@ -19,7 +19,7 @@ use Rattle.format.specs.Reading.{firstBits, formIn, readIn, answer, read}
 use Rattle.format.specs.EitherOr.{Family, DateOrTz, TimeOrTz, DatetimeOrTz, kindBy01, kindIn, readEither}
 use Rattle.format.proofs.Cases.{cases, lt-or-le, eq-or-ne, both-true, both-false, same, never}
 use Rattle.claims.specs.ReaderRefusals.{between}
-use Rattle.claims.specs.PlainNumbers.{bits1000, bits1001, twentyFiveWithSign, ChosenDate, ChosenTime, ChosenDatetime, ChosenKind, moves, OtherChoicesStand, NoStampLost, NewStamps}
+use Rattle.claims.specs.PlainNumbers.{bits1000, bits1001, fourteenWithSign, twentyFiveWithSign, ChosenDate, ChosenTime, ChosenDatetime, ChosenKind, moves, OtherChoicesStand, NoStampLost, NewStamps}
 
 -- ---- the choice
 
@@ -64,7 +64,10 @@ module _ (s : List ℕ) where
   other : (m : ℕ) → (length s ≡ m → ⊥) → eqb (length s) m ≡ false
   other m h = ne-eqb (length s) m h
 
-  -- 25 octets
+  -- 14 octets, and 25
+  of-14 : fourteenWithSign s ≡ true → length s ≡ 14
+  of-14 e = eqb-true (length s) 14 (both-true (eqb (length s) 14) (either (eqb (getD s 8 0) 0x2B) (eqb (getD s 8 0) 0x2D)) e .0)
+
   of-25 : twentyFiveWithSign s ≡ true → length s ≡ 25
   of-25 e = eqb-true (length s) 25 (both-true (eqb (length s) 25) (either (eqb (getD s 19 0) 0x2B) (eqb (getD s 19 0) 0x2D)) e .0)
 
@@ -119,9 +122,7 @@ neither true b e = never e
 -- from the plain kind to the zoned one
 moved-time : (s : List ℕ) → moves TimeOrTz s ≡ true → (kindBy01 TimeOrTz s ≡ Time) × (kindIn TimeOrTz s ≡ TimeTz)
 unfolding kindIn kindBy01
-moved-time s m =
-    let l : length s ≡ 14 = eqb-true (length s) 14 (both-true (eqb (length s) 14) _ m .0) in
-    (rw l, rw m)
+moved-time s m = (rw (of-14 s m), rw m)
 
 moved-datetime : (s : List ℕ) → moves DatetimeOrTz s ≡ true → (kindBy01 DatetimeOrTz s ≡ Datetime) × (kindIn DatetimeOrTz s ≡ DatetimeTz)
 unfolding kindBy01
@@ -130,7 +131,7 @@ moved-datetime s m =
     let n = neither (bits1000 s) (bits1001 s) (t .1) in
     (rw (of-25 s (t .0), is-1000 s, is-1001 s, n .0, n .1), chosen-datetime s .4 (n .0) (t .0))
 
--- where two choices are alike, not one of them is zoned
+-- a plain kind and a zoned one are not alike
 unlike : {A : Type 0} (x y z w : Kind) → x ≡ y → y ≡ z → x ≡ w → zoned z ≡ false → zoned w ≡ true → A
 unlike x y z w p q r a b = never (sym a ∙ ap zoned (sym q ∙ sym p ∙ r) ∙ b)
 
@@ -170,7 +171,7 @@ refused-time : (s : List ℕ) → moves TimeOrTz s ≡ true → (read Time s ≡
 unfolding read formIn readIn readText readFields readExtended textLength layout widths width longestPlain headBits dayWidth digitsFound digitsFrom
 refused-time s m =
     let b = both-true (eqb (length s) 14) (either (eqb (getD s 8 0) 0x2B) (eqb (getD s 8 0) 0x2D)) m in
-    let l : length s ≡ 14 = eqb-true (length s) 14 (b .0) in
+    let l = of-14 s m in
     ⊎-elim (λ (x : eqb (firstBits s) 8 ≡ true). inl (rw (l, x, l))) (λ (x : eqb (firstBits s) 8 ≡ false). inr (rw (l, x, unfit-time s (no-point (getD s 8 0) (b .1))))) (cases (eqb (firstBits s) 8))
 
 refused-datetime : (s : List ℕ) → moves DatetimeOrTz s ≡ true → (read Datetime s ≡ refused 5) ⊎ (read Datetime s ≡ refused 6)
@@ -223,6 +224,6 @@ pub new-stamps : NewStamps
 unfolding readEither
 new-stamps DateOrTz s a m p = never m
 new-stamps TimeOrTz s a m p =
-    only-text TimeTz s a refl (text-14 s (eqb-true (length s) 14 (both-true (eqb (length s) 14) _ m .0))) (rw (moved-time s m .1) at p)
+    only-text TimeTz s a refl (text-14 s (of-14 s m)) (rw (moved-time s m .1) at p)
 new-stamps DatetimeOrTz s a m p =
     only-text DatetimeTz s a refl (text-25 s (of-25 s (both-true (twentyFiveWithSign s) _ m .0))) (rw (moved-datetime s m .1) at p)

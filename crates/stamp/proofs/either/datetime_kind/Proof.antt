@@ -61,7 +61,7 @@ returns-6 c =
     let s = f .before .before .before .args .s .now in
     let no : both (eqb (length s) 25) (isSign (getD s 19 0)) ≡ false =
     ⊎-elim (λ w. let none : isSign (getD s 19 0) ≡ false = sym (w .2 .ensures) ∙ w .3 .left in rw none (both-false (eqb (length s) 25))) (λ w. rw (ne-eqb (length s) 25 (w .left))) (c .before .if5 .came) in
-    rw (no, lt-leb _ _ (f .before .if1 .left), lt-leb _ _ (f .if2 .left), ne-eqb _ _ (e .before .if3 .left), ne-eqb _ _ (e .if4 .left), le-leb _ _ (c .if7 .taken))
+    rw (no, lt-leb _ _ (f .before .if1 .left), lt-leb _ _ (f .if2 .left), ne-eqb _ _ (e .before .if3 .left), ne-eqb _ _ (e .if4 .left), le-leb _ 26 (c .if7 .taken))
 
 returns-7 : tie.Need-returns-7
 unfolding kindIn kindBy01 firstBits

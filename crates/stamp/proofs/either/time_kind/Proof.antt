@@ -50,7 +50,7 @@ returns-5 c =
     let s = e .before .before .before .before .args .s .now in
     let no : both (eqb (length s) 14) (isSign (getD s 8 0)) ≡ false =
     ⊎-elim (λ w. let none : isSign (getD s 8 0) ≡ false = sym (w .2 .ensures) ∙ w .3 .left in rw none (both-false (eqb (length s) 14))) (λ w. rw (ne-eqb (length s) 14 (w .left))) (c .before .if4 .came) in
-    rw (no, lt-leb _ _ (e .before .before .if1 .left), lt-leb _ _ (e .before .if2 .left), ne-eqb _ _ (e .if3 .left), le-leb _ _ (c .if6 .taken))
+    rw (no, lt-leb _ _ (e .before .before .if1 .left), lt-leb _ _ (e .before .if2 .left), ne-eqb _ _ (e .if3 .left), le-leb _ 15 (c .if6 .taken))
 
 returns-6 : tie.Need-returns-6
 unfolding kindIn kindBy01
