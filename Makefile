@@ -1,8 +1,8 @@
-# make            the library, libstamp.a and libstamp.so.1.1, and the tool build/stamp, for this machine
+# make            the library, libstamp.a and libstamp.so.1.2, and the tool build/stamp, for this machine
 # make test       the gate
 # make install    library, header, stamp.pc, tool and man page, under PREFIX, the library in LIBDIR; all below DESTDIR if there is one
 # make uninstall  takes away what make install puts there, given the same words
-# make compare    the library beside the second program, over more than a thousand million calls; some minutes
+# make compare    the library beside the second program, over more than two thousand million calls; some minutes
 # make measure    our calls beside a plain C version, timed; the table goes to docs/MEASURE.md
 # The library is proved and compiled by the Rattle kit's `rt`. For another machine than this one, after `make clean`: make MACHINE=aarch64
 # CC=aarch64-linux-gnu-gcc, or make MACHINE=x86_64 CC=x86_64-linux-gnu-gcc.
@@ -108,7 +108,7 @@ build/libmeasured.a: $(PROOFS) packaging/archive | build libstamp.a
 build/%.o: measure/%.c $(wildcard measure/*.h) $(HEADER) Makefile | build
 	$(CLANG) --target=$(MACHINE)-unknown-linux-gnu -std=c99 $(LEVEL) -DLEVEL='"$(LEVEL)"' -Wall -Wextra $(SYSTEM) -Iinclude -c $< -o $@
 
-build/measure: build/measure.o build/plain_reading.o build/plain_writing.o build/plain_calendar.o libstamp.a build/libmeasured.a
+build/measure: build/measure.o build/plain_reading.o build/plain_writing.o build/plain_calendar.o build/plain_instants.o libstamp.a build/libmeasured.a
 	$(CC) $^ -o $@
 
 measure: able build/measure

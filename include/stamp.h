@@ -1,8 +1,9 @@
 /* stamp.h - reads and writes date-and-time stamps (BDE BER date-and-time format), for C99 and C++.
  *
  * A stamp is the contents octets of one of six kinds in one of three forms. Identifier and length octets are the
- * caller's. The library (libstamp.a, libstamp.so) exports two functions: stamp_write and stamp_read. All else here is a
- * constant, a struct, or a small inline function over these two.
+ * caller's. The library (libstamp.a, libstamp.so) exports seven functions: stamp_write and stamp_read for stamps, and
+ * stamp_instant, stamp_add, stamp_difference, stamp_at and stamp_restate for their UTC instants. All else here is a
+ * constant, a struct, or a small inline function over these.
  *
  *     uint8_t lent[STAMP_LONGEST_IMAGE];
  *     size_t count;
@@ -14,7 +15,7 @@
  * Nothing is allocated and nothing is kept between calls (no global state), so calls from several threads
  * need no lock; each thread lends its own buffers. A pointer to no octets (length or room 0) may be null; no other.
  * What is lent to one call must not overlap: octets[0 .. room-1] and *count of a write, octets[0 .. length-1] and
- * parts[0 .. 7] of a read. */
+ * parts[0 .. 7] of a read. The calls on instants are handed numbers and lent one place to answer in. */
 #ifndef STAMP_H
 #define STAMP_H
 
@@ -24,7 +25,7 @@
 #include <stdbool.h>
 #endif
 
-#define STAMP_RELEASE "1.1"
+#define STAMP_RELEASE "1.2"
 
 /* ---- Kinds, forms, limits ---- */
 
@@ -62,13 +63,21 @@ enum {
 #define STAMP_DEFAULT_DIGITS 3
 #define STAMP_EXTENDED_FROM 35500      /* the first version that may be sent extended forms */
 
+/* Instants: microseconds from 0001-01-01T00:00 UTC, below 0 before it. The least and the greatest are those of
+ * 0001-01-01T00:00+23:59 and 9999-12-31T24:00-23:59; every number between them is the instant of some stamp. */
+#define STAMP_MIN_INSTANT (-86340000000LL)
+#define STAMP_MAX_INSTANT 315537983940000000LL
+#define STAMP_UNIX_EPOCH 62135596800000000LL /* of 1970-01-01T00:00+00:00, which Unix time counts from */
+
 /* ---- Refusals ---- */
 
 /* The one place of each refusal's name, number and sentence; the tool and the man page say the same words. Writers
- * give 1 to 4, readers 5 to 8, always the first that applies. A kind number that is no kind is 2, in reading too. */
+ * give 1 to 4, readers 5 to 8, the calls on instants 2 and 9, always the first that applies. A kind number that is no
+ * kind is 2, in reading too. */
 #define STAMP_REFUSALS(X) \
     X(STAMP_REFUSED_DIGITS, 1, "the digits setting is above 6") \
-    X(STAMP_REFUSED_VALUE, 2, "a part of the value is out of range, or there is no such day") \
+    X(STAMP_REFUSED_VALUE, 2, "a part of the value or an offset is out of range, there is no such day, " \
+                              "or no stamp has such an instant") \
     X(STAMP_REFUSED_NO_COMPACT, 3, "the value is too late to have a compact form") \
     X(STAMP_REFUSED_BUFFER, 4, "the buffer is shorter than the stamp") \
     X(STAMP_REFUSED_LENGTH, 5, "the length is not one that the chosen form of this kind can have") \
@@ -77,14 +86,16 @@ enum {
     X(STAMP_REFUSED_REDUNDANT, 7, "an integer is longer than it may be, " \
                                   "or an offset of zero is written where it must be left out, or as -00:00") \
     X(STAMP_REFUSED_RANGE, 8, "a field is out of range: there is no such day, time of day or offset, " \
-                              "or no value has such a number")
+                              "or no value has such a number") \
+    X(STAMP_REFUSED_RESULT, 9, "the result can't be given: no stamp has such an instant, " \
+                               "or the local reading is outside the years 1 to 9999")
 
 #define STAMP_REFUSAL_CONSTANT(name, number, sentence) name = number,
 enum { STAMP_REFUSALS(STAMP_REFUSAL_CONSTANT) STAMP_ACCEPTED = 0 };
 #undef STAMP_REFUSAL_CONSTANT
-#define STAMP_LAST_REFUSAL 8
+#define STAMP_LAST_REFUSAL 9
 
-/* ---- The two calls of the library ---- */
+/* ---- The calls of the library ---- */
 
 #ifdef __cplusplus
 extern "C" {
@@ -99,6 +110,29 @@ uint32_t stamp_write(uint32_t kind, uint32_t year, uint32_t month, uint32_t day,
  * (0 but for text), year, month, day, micros, offset; each 0 where the kind lacks it. All eight stay as lent after a
  * refusal. stamp_decode is the same with names. */
 uint32_t stamp_read(uint32_t kind, const uint8_t *octets, size_t length, int64_t parts[8]);
+
+/* A DatetimeTz, here by its parts, has an instant: its local reading less its offset. 24:00 counts as the next day's
+ * start. Each call answers the refusal number, 0 for none; *instant, *sum, *difference and parts stay as lent after a
+ * refusal. 2: a stamp, an offset or an instant handed in is out of range; then 9: the result is. Any number may be
+ * handed in; no sum overflows. */
+
+/* The instant of a stamp. Refusal 2. */
+uint32_t stamp_instant(uint32_t year, uint32_t month, uint32_t day, uint64_t micros, int32_t offset, int64_t *instant);
+
+/* The instant so many microseconds later, or earlier for a number below 0. Refusals 2, 9. */
+uint32_t stamp_add(int64_t instant, int64_t micros, int64_t *sum);
+
+/* The microseconds from b to a: a less b. Refusal 2; never 9. */
+uint32_t stamp_difference(int64_t a, int64_t b, int64_t *difference);
+
+/* The stamp of an instant at an offset, never at 24:00. parts: year, month, day, micros, offset. Refusals 2, 9.
+ * stamp_value_at is the same with names. */
+uint32_t stamp_at(int64_t instant, int32_t offset, int64_t parts[5]);
+
+/* A stamp restated at another offset: the same instant there, never at 24:00. parts: as of stamp_at. Refusals 2, 9.
+ * stamp_restate_value is the same with names. */
+uint32_t stamp_restate(uint32_t year, uint32_t month, uint32_t day, uint64_t micros, int32_t offset, int32_t to,
+                       int64_t parts[5]);
 
 #ifdef __cplusplus
 }
@@ -234,6 +268,46 @@ static inline uint64_t stamp_micros(uint32_t hour, uint32_t minute, uint32_t sec
     return (((uint64_t)hour * 60 + minute) * 60 + second) * 1000000 + fraction;
 }
 
+/* ---- Instants of values ---- */
+
+/* stamp_instant of a value. A value of another kind than DatetimeTz has no instant: refusal 2. */
+static inline uint32_t stamp_instant_of(const stamp_value *value, int64_t *instant)
+{
+    if (value->kind != STAMP_DATETIMETZ)
+        return STAMP_REFUSED_VALUE;
+    return stamp_instant(value->year, value->month, value->day, value->micros, value->offset, instant);
+}
+
+/* The DatetimeTz of the five parts that stamp_at and stamp_restate give. */
+static inline stamp_value stamp_value_of_parts(const int64_t parts[5])
+{
+    return stamp_datetimetz((uint32_t)parts[0], (uint32_t)parts[1], (uint32_t)parts[2], (uint64_t)parts[3],
+                            (int32_t)parts[4]);
+}
+
+/* stamp_at. *value stays as lent after a refusal. */
+static inline uint32_t stamp_value_at(int64_t instant, int32_t offset, stamp_value *value)
+{
+    int64_t parts[5] = {0};
+    uint32_t refusal = stamp_at(instant, offset, parts);
+    if (refusal == STAMP_ACCEPTED)
+        *value = stamp_value_of_parts(parts);
+    return refusal;
+}
+
+/* stamp_restate of a value; of another kind than DatetimeTz: refusal 2. *restated stays as lent after a refusal, and may
+ * be the value itself. */
+static inline uint32_t stamp_restate_value(const stamp_value *value, int32_t to, stamp_value *restated)
+{
+    int64_t parts[5] = {0};
+    if (value->kind != STAMP_DATETIMETZ)
+        return STAMP_REFUSED_VALUE;
+    uint32_t refusal = stamp_restate(value->year, value->month, value->day, value->micros, value->offset, to, parts);
+    if (refusal == STAMP_ACCEPTED)
+        *restated = stamp_value_of_parts(parts);
+    return refusal;
+}
+
 /* ---- Words and lengths ---- */
 
 /* "Date" to "DatetimeTz"; "" for a number that is none of the six kinds. */
@@ -250,7 +324,7 @@ static inline const char *stamp_form_name(uint32_t form)
     return form < STAMP_FORMS ? names[form] : "";
 }
 
-/* The sentence of a refusal; "accepted" for 0, "no such refusal" above 8. */
+/* The sentence of a refusal; "accepted" for 0, "no such refusal" above 9. */
 static inline const char *stamp_refusal_sentence(uint32_t refusal)
 {
 #define STAMP_REFUSAL_CASE(name, number, sentence) case number: return sentence;

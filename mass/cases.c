@@ -9,6 +9,7 @@
 
 #define LONGEST_CASE 128               /* octets of the longest room and of the longest input */
 #define LENT 0x5A                      /* each lent octet before the call */
+#define PARTS 5                        /* that a call on instants fills at most */
 
 static int differences;
 
@@ -72,12 +73,112 @@ static bool read_case(const char *line)
     return true;
 }
 
+/* ---- Instants ---- */
+
+/* What is lent to the call of the second program and to that of the library: a guard, the parts, a guard. */
+typedef struct lent_parts {
+    int64_t second[1 + PARTS + 1], library[1 + PARTS + 1];
+} lent_parts;
+
+static lent_parts lend_parts(void)
+{
+    lent_parts made;
+    memset(&made, LENT, sizeof made);
+    return made;
+}
+
+/* Both answers to a call that fills so many parts; after a refusal it fills none, whatever both say. */
+static bool print_parts(uint32_t refusal, uint32_t library, const lent_parts *lent, int filled)
+{
+    lent_parts kept = lend_parts();
+    if (refusal == 0)
+        memcpy(kept.library + 1, lent->second + 1, (size_t)filled * sizeof kept.library[0]);
+    differences += library != refusal || memcmp(lent->library, kept.library, sizeof kept.library) != 0;
+    printf("%" PRIu32, refusal);
+    for (int i = 1; i <= filled && refusal == 0; i++)
+        printf(" %" PRId64, lent->second[i]);
+    printf("\n");
+    return true;
+}
+
+static bool instant_case(const char *line)
+{
+    uint32_t year, month, day;
+    uint64_t micros;
+    int32_t offset;
+    lent_parts lent = lend_parts();
+    if (sscanf(line, "I %" SCNu32 " %" SCNu32 " %" SCNu32 " %" SCNu64 " %" SCNd32, &year, &month, &day, &micros,
+               &offset) != 5)
+        return false;
+    uint32_t refusal = fast_instant(year, month, day, micros, offset, lent.second + 1);
+    return print_parts(refusal, stamp_instant(year, month, day, micros, offset, lent.library + 1), &lent, 1);
+}
+
+static bool add_case(const char *line)
+{
+    int64_t instant, micros;
+    lent_parts lent = lend_parts();
+    if (sscanf(line, "A %" SCNd64 " %" SCNd64, &instant, &micros) != 2)
+        return false;
+    uint32_t refusal = fast_add(instant, micros, lent.second + 1);
+    return print_parts(refusal, stamp_add(instant, micros, lent.library + 1), &lent, 1);
+}
+
+static bool difference_case(const char *line)
+{
+    int64_t a, b;
+    lent_parts lent = lend_parts();
+    if (sscanf(line, "D %" SCNd64 " %" SCNd64, &a, &b) != 2)
+        return false;
+    uint32_t refusal = fast_difference(a, b, lent.second + 1);
+    return print_parts(refusal, stamp_difference(a, b, lent.library + 1), &lent, 1);
+}
+
+static bool at_case(const char *line)
+{
+    int64_t instant;
+    int32_t offset;
+    lent_parts lent = lend_parts();
+    if (sscanf(line, "T %" SCNd64 " %" SCNd32, &instant, &offset) != 2)
+        return false;
+    uint32_t refusal = fast_at(instant, offset, lent.second + 1);
+    return print_parts(refusal, stamp_at(instant, offset, lent.library + 1), &lent, 5);
+}
+
+static bool restate_case(const char *line)
+{
+    uint32_t year, month, day;
+    uint64_t micros;
+    int32_t offset, to;
+    lent_parts lent = lend_parts();
+    if (sscanf(line, "S %" SCNu32 " %" SCNu32 " %" SCNu32 " %" SCNu64 " %" SCNd32 " %" SCNd32, &year, &month, &day,
+               &micros, &offset, &to) != 6)
+        return false;
+    uint32_t refusal = fast_restate(year, month, day, micros, offset, to, lent.second + 1);
+    return print_parts(refusal, stamp_restate(year, month, day, micros, offset, to, lent.library + 1), &lent, 5);
+}
+
+/* False for a line that is no case. */
+static bool answer_case(const char *line)
+{
+    switch (line[0]) {
+    case 'W': return write_case(line);
+    case 'R': return read_case(line);
+    case 'I': return instant_case(line);
+    case 'A': return add_case(line);
+    case 'D': return difference_case(line);
+    case 'T': return at_case(line);
+    case 'S': return restate_case(line);
+    default: return false;
+    }
+}
+
 int answer_cases(void)
 {
     char line[2 * LONGEST_CASE + 200];
     uint64_t cases = 0;
     while (fgets(line, sizeof line, stdin) != NULL) {
-        if (!write_case(line) && !read_case(line)) {
+        if (!answer_case(line)) {
             fprintf(stderr, "mass: no case: %s", line);
             return 2;
         }

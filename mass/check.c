@@ -1,3 +1,4 @@
+/* Writing and reading. */
 #define _DEFAULT_SOURCE                /* MAP_ANONYMOUS */
 #include "check.h"
 
@@ -8,38 +9,7 @@
 #include <unistd.h>
 
 #include "../second/fast.h"
-#include "describe.h"
-
-static tally *now;
-static uint32_t checks_of_unit;          /* gives the filling, which so is the same whoever does the unit */
-
-void check_into(tally *to, uint64_t unit)
-{
-    now = to;
-    now->unit = unit;
-    checks_of_unit = 0;
-}
-
-static void count_answer(uint32_t refusal)
-{
-    now->checks++;
-    checks_of_unit++;
-    now->answers[refusal < OTHER_ANSWER ? refusal : OTHER_ANSWER]++;
-}
-
-/* A new difference: why it is one, and the call. False where enough are kept; the caller then says no more. */
-static bool start_difference(words *to, const char *why)
-{
-    now->failed++;
-    if (now->differences == DIFFERENCES_KEPT)
-        return false;
-    difference *kept = &now->kept[now->differences++];
-    kept->unit = now->unit;
-    to->text = kept->text;
-    to->length = (size_t)snprintf(kept->text, DIFFERENCE_ROOM, "difference: %s\n  ", why);
-    say_call(to, &now->last);
-    return true;
-}
+#include "counting.h"
 
 /* ---- Writing ---- */
 
@@ -115,7 +85,7 @@ static bool write_checked(const image *same_as, image *written)
 
 static void note_write(const stamp_value *value, stamp_settings settings, size_t room)
 {
-    now->last.reading = false;
+    now->last.which = ASKED_WRITE;
     now->last.value = *value;
     now->last.settings = settings;
     now->last.room = room;
@@ -146,35 +116,7 @@ static uint8_t *fence(void)
     return found;
 }
 
-static void lend_parts(read_answer *to)
-{
-    for (int i = 0; i < 10; i++)
-        to->parts[i] = LENT_PART - i;
-}
-
-static bool parts_are_as_lent(const read_answer *answer, int first, int last)
-{
-    for (int i = first; i <= last; i++)
-        if (!part_is_as_lent(answer, i))
-            return false;
-    return true;
-}
-
-/* What is wrong with the library's answer, or null. */
-static const char *wrong_in_read(const read_answer *library, const read_answer *second)
-{
-    if (library->refusal != second->refusal)
-        return "the refusal numbers differ";
-    if (memcmp(library->parts, second->parts, sizeof library->parts) != 0)
-        return "the parts differ";
-    if (!parts_are_as_lent(library, 0, 0) || !parts_are_as_lent(library, 9, 9))
-        return "more than the eight parts changed";
-    if (library->refusal != STAMP_ACCEPTED && !parts_are_as_lent(library, 1, 8))
-        return "a part changed though the read was refused";
-    return NULL;
-}
-
-static void write_again(const read_answer *answer)
+static void write_again(const parts_answer *answer)
 {
     const int64_t *parts = answer->parts + 1;
     stamp_decoded found;
@@ -191,21 +133,21 @@ static void write_again(const read_answer *answer)
 /* One check, of the input at `lent`; and one more where it was accepted. */
 static void read_checked(const uint8_t *lent)
 {
-    read_answer library, second;
+    parts_answer library, second;
     words said;
     const image *input = &now->last.read;
     lend_parts(&library);
     lend_parts(&second);
     library.refusal = stamp_read(now->last.kind, lent, input->length, library.parts + 1);
     second.refusal = fast_read(now->last.kind, input->octets, input->length, second.parts + 1);
-    const char *why = wrong_in_read(&library, &second);
+    const char *why = wrong_in_parts(&library, &second, 8);
     if (why == NULL && lent != NULL && memcmp(lent, input->octets, input->length) != 0)
         why = "an octet of the input changed";
     count_answer(library.refusal);
     if (why != NULL) {
         if (start_difference(&said, why)) {
-            say_read(&said, "library:", &library);
-            say_read(&said, "second: ", &second);
+            say_parts(&said, "library:", ASKED_READ, &library);
+            say_parts(&said, "second: ", ASKED_READ, &second);
         }
     } else if (library.refusal == STAMP_ACCEPTED) {
         write_again(&library);
@@ -216,7 +158,7 @@ void check_read(uint32_t kind, const uint8_t *octets, size_t length)
 {
     uint8_t *lent = fence() - length;
     memcpy(lent, octets, length);
-    now->last.reading = true;
+    now->last.which = ASKED_READ;
     now->last.kind = kind;
     now->last.read.length = length;
     memcpy(now->last.read.octets, octets, length);

@@ -1,6 +1,6 @@
 /* The compared calls. Each calls the library and the second program with the same input and holds everything that comes
- * back to each other: refusal number, count, every octet of the lent buffer and of the guards around it, all eight
- * parts. A part of a refused read, an octet past an image and a guard must also be as lent, whatever both say. */
+ * back to each other: refusal number, count, every octet of the lent buffer and of the guards around it, all parts. A
+ * part of a refused call, an octet past an image and a guard must also be as lent, whatever both say. */
 #ifndef MASS_CHECK_H
 #define MASS_CHECK_H
 
@@ -9,21 +9,27 @@
 #define LONGEST_TRIED 40               /* octets lent or read at most */
 #define DIFFERENCES_KEPT 20
 #define DIFFERENCE_ROOM 1200           /* characters of one difference, printed whole */
-#define OTHER_ANSWER 9                 /* counts answers that are no refusal number */
+#define OTHER_ANSWER (STAMP_LAST_REFUSAL + 1) /* counts answers that are no refusal number */
 
 typedef struct image {
     uint8_t octets[LONGEST_TRIED];
     size_t length;
 } image;
 
-/* The input of one call. */
+typedef enum asked {
+    ASKED_WRITE, ASKED_READ, ASKED_INSTANT, ASKED_ADD, ASKED_DIFFERENCE, ASKED_AT, ASKED_RESTATE
+} asked;
+
+/* The input of one call; what another would be asked is left as it was. */
 typedef struct call {
-    bool reading;
-    uint32_t kind;                     /* reading: the reader; writing: that of the value */
-    stamp_value value;
+    asked which;
+    uint32_t kind;                     /* the reader */
+    stamp_value value;                 /* written, asked for its instant or restated */
     stamp_settings settings;
     size_t room;
     image read;
+    int64_t a, b;                      /* an instant and what is added to it, or two instants */
+    int32_t to;                        /* the offset at which an instant or a stamp is asked for */
 } call;
 
 typedef struct difference {
@@ -36,7 +42,7 @@ typedef struct tally {
     volatile uint64_t units_done;
     uint64_t unit;                     /* at work */
     uint64_t checks, failed;
-    uint64_t again;                    /* checks that wrote again what was read */
+    uint64_t again;                    /* checks that wrote again what was read, or asked a result for its instant */
     uint64_t answers[OTHER_ANSWER + 1];
     size_t differences;
     difference kept[DIFFERENCES_KEPT];
@@ -61,5 +67,20 @@ void check_read_by_two(uint32_t kind, const uint8_t *octets, size_t length);
 
 /* Writes with room for everything; what was accepted is read by the two. */
 bool check_both_ways(const stamp_value *value, stamp_settings settings);
+
+/* The calls on instants. The kind of a value is not looked at: it is taken for a DatetimeTz. */
+
+/* The instant of a stamp. `same_as` is the one that it must have, or null where any may that both agree on. */
+void check_instant(const stamp_value *value, const int64_t *same_as);
+
+void check_add(int64_t instant, int64_t micros);
+void check_difference(int64_t a, int64_t b);
+
+/* The stamp of an instant at an offset; true and the stamp where it was accepted, and rightly. It is asked for its
+ * instant, which must be the one given. */
+bool check_at(int64_t instant, int32_t offset, stamp_value *found);
+
+/* A stamp restated; what was accepted is asked for its instant, which must be that of the stamp given. */
+void check_restate(const stamp_value *value, int32_t to);
 
 #endif

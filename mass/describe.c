@@ -23,17 +23,43 @@ static void say_hex(words *to, const uint8_t *octets, size_t length)
         say(to, "-");
 }
 
+static void say_value(words *to, const stamp_value *value)
+{
+    say(to, "year %" PRIu32 " month %" PRIu32 " day %" PRIu32 ", micros %" PRIu64 ", offset %" PRId32,
+        value->year, value->month, value->day, value->micros, value->offset);
+}
+
 void say_call(words *to, const call *made)
 {
-    if (made->reading) {
-        say(to, "read, kind %" PRIu32 ", %zu octets: ", made->kind, made->read.length);
-        say_hex(to, made->read.octets, made->read.length);
-    } else {
-        const stamp_value *value = &made->value;
-        say(to, "write, kind %" PRIu32 ", year %" PRIu32 " month %" PRIu32 " day %" PRIu32 ", micros %" PRIu64
-            ", offset %" PRId32, value->kind, value->year, value->month, value->day, value->micros, value->offset);
+    switch (made->which) {
+    case ASKED_WRITE:
+        say(to, "write, kind %" PRIu32 ", ", made->value.kind);
+        say_value(to, &made->value);
         say(to, ", %s, version %" PRIu32 ", digits %" PRIu32 ", room %zu", made->settings.binary ? "binary" : "text",
             made->settings.version, made->settings.digits, made->room);
+        break;
+    case ASKED_READ:
+        say(to, "read, kind %" PRIu32 ", %zu octets: ", made->kind, made->read.length);
+        say_hex(to, made->read.octets, made->read.length);
+        break;
+    case ASKED_INSTANT:
+        say(to, "instant, ");
+        say_value(to, &made->value);
+        break;
+    case ASKED_ADD:
+        say(to, "add, instant %" PRId64 ", micros %" PRId64, made->a, made->b);
+        break;
+    case ASKED_DIFFERENCE:
+        say(to, "difference, a %" PRId64 ", b %" PRId64, made->a, made->b);
+        break;
+    case ASKED_AT:
+        say(to, "at, instant %" PRId64 ", offset %" PRId32, made->a, made->to);
+        break;
+    case ASKED_RESTATE:
+        say(to, "restate, ");
+        say_value(to, &made->value);
+        say(to, ", to %" PRId32, made->to);
+        break;
     }
     say(to, "\n");
 }
@@ -49,15 +75,39 @@ void say_write(words *to, const char *who, const write_answer *answer)
     say(to, "\n");
 }
 
-void say_read(words *to, const char *who, const read_answer *answer)
+/* The parts of each call in order; a null ends them. */
+static const char *const part_names[][9] = {
+    [ASKED_WRITE] = {NULL},
+    [ASKED_READ] = {"kind", "form", "digits", "year", "month", "day", "micros", "offset"},
+    [ASKED_INSTANT] = {"instant"},
+    [ASKED_ADD] = {"sum"},
+    [ASKED_DIFFERENCE] = {"difference"},
+    [ASKED_AT] = {"year", "month", "day", "micros", "offset"},
+    [ASKED_RESTATE] = {"year", "month", "day", "micros", "offset"},
+};
+
+int parts_filled(asked which)
 {
-    static const char *const names[8] = {"kind", "form", "digits", "year", "month", "day", "micros", "offset"};
+    int count = 0;
+    while (part_names[which][count] != NULL)
+        count++;
+    return count;
+}
+
+void say_parts(words *to, const char *who, asked which, const parts_answer *answer)
+{
+    const char *const *names = part_names[which];
     say(to, "  %s refusal %" PRIu32, who, answer->refusal);
-    for (int i = 0; i < 8; i++) {
+    for (int i = 0; names[i] != NULL; i++) {
         if (part_is_as_lent(answer, 1 + i))
             say(to, ", %s -", names[i]);
         else
             say(to, ", %s %" PRId64, names[i], answer->parts[1 + i]);
     }
     say(to, "\n");
+}
+
+void say_wanted_instant(words *to, int64_t instant)
+{
+    say(to, "  wanted:  instant %" PRId64 "\n", instant);
 }

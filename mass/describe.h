@@ -13,16 +13,20 @@ typedef struct write_answer {
     uint8_t area[GUARD + LONGEST_TRIED + GUARD];
 } write_answer;
 
-typedef struct read_answer {
+/* Of a read, or of a call on instants. */
+typedef struct parts_answer {
     uint32_t refusal;
-    int64_t parts[1 + 8 + 1];          /* a guard, the eight, a guard */
-} read_answer;
+    int64_t parts[1 + 8 + 1];          /* a guard, the eight of a read or the fewer of the others, guards */
+} parts_answer;
 
 /* True where the part is as it was lent; each of the ten was lent another number. */
-static inline bool part_is_as_lent(const read_answer *answer, int part)
+static inline bool part_is_as_lent(const parts_answer *answer, int part)
 {
     return answer->parts[part] == LENT_PART - part;
 }
+
+/* How many parts a call fills that is no write. */
+int parts_filled(asked which);
 
 /* Text that grows up to DIFFERENCE_ROOM; what is beyond is left out. */
 typedef struct words {
@@ -33,6 +37,7 @@ typedef struct words {
 void say_call(words *to, const call *made);
 void say_write(words *to, const char *who, const write_answer *answer);
 /* A part that is as lent is a dash. */
-void say_read(words *to, const char *who, const read_answer *answer);
+void say_parts(words *to, const char *who, asked which, const parts_answer *answer);
+void say_wanted_instant(words *to, int64_t instant);
 
 #endif

@@ -94,7 +94,7 @@ static uint64_t any_micros(chance *by)
     return chance_once_in(by, 4) ? chance_bits(by) : PICK(by, edges);
 }
 
-static int32_t any_offset(chance *by)
+int32_t any_offset(chance *by)
 {
     static const int32_t edges[] = {1439, -1439, 1440, -1440, 2047, 2048, -2048, -2049, 4095, 4096, 32767, -32768,
                                     65535, 65536, -65536, 2147483647, -2147483647, INT32_MIN};

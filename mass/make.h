@@ -18,6 +18,7 @@ stamp_value some_value(chance *by, uint32_t kind);
 stamp_settings some_settings(chance *by);
 
 /* Any numbers at all, right and wrong. */
+int32_t any_offset(chance *by);
 stamp_value any_value(chance *by);
 stamp_settings any_settings(chance *by);
 

@@ -20,7 +20,7 @@
 
 #define DEFAULT_SEED 20200101
 #define DEFAULT_ROUNDS 20000000
-#define PARTS 14
+#define PARTS 18
 
 static void list_parts(part parts[PARTS], uint64_t rounds)
 {
@@ -43,6 +43,14 @@ static void list_parts(part parts[PARTS], uint64_t rounds)
         {"values", "values right and wrong, under any settings, into any room", try_random_values, units, "01234"},
         {"choices", "texts with every octet at every place, behind the first bits of each form", try_choices, CHOICE_UNITS,
          "05678"},
+        {"zones", "every offset from -1500 to 1500 at the years' ends and midnights, restated at every other",
+         try_zones, OFFSET_UNITS, "029"},
+        {"midnights", "every day's midnight and its neighbours, at some offsets, and back", try_midnights,
+         MIDNIGHT_UNITS, "029"},
+        {"sums", "the neighbours of every limit of instants, added, subtracted and at every offset", try_sums,
+         instant_edge_units(), "029"},
+        {"instants", "stamps, instants, offsets and numbers, right and wrong, to all five calls", try_random_instants,
+         units, "029"},
     };
     memcpy(parts, list, sizeof list);
 }
@@ -101,8 +109,8 @@ static int compare(uint64_t seed, uint64_t rounds, int workers, const char *only
     }
     if (checks == 0)
         fprintf(stderr, "mass: no part has that name\n");
-    printf("\nseed %" PRIu64 ", %" PRIu64 " rounds; \"again\" are the checks that wrote again what was read\n",
-           seed, rounds);
+    printf("\nseed %" PRIu64 ", %" PRIu64 " rounds; \"again\" are the checks that wrote again what was read, or asked "
+           "a result for its instant\n", seed, rounds);
     print_heading();
     for (int i = 0; i < PARTS; i++)
         if (counted[i].checks > 0)

@@ -5,7 +5,7 @@
 #include "chance.h"
 #include "stamp.h"
 
-#define DATE_UNITS 10001               /* short.c to chances.c say what a unit is */
+#define DATE_UNITS 10001               /* short.c to instants.c say what a unit is */
 #define DAY_NUMBER_UNITS 256
 #define SHORT_UNITS 257
 #define OFFSET_UNITS 3001
@@ -14,6 +14,7 @@
 #define MILLISECOND_UNITS 86401
 #define FRACTION_UNITS 1000
 #define CHOICE_UNITS (STAMP_KINDS * (STAMP_MAX_DIGITS + 1))
+#define MIDNIGHT_UNITS 3653
 #define CHANCE_ROUNDS 10000            /* rounds in a unit of those by chance */
 
 void try_short(uint64_t unit, chance *by);
@@ -30,8 +31,13 @@ void try_mutated(uint64_t unit, chance *by);
 void try_random_octets(uint64_t unit, chance *by);
 void try_random_values(uint64_t unit, chance *by);
 void try_choices(uint64_t unit, chance *by);
+void try_zones(uint64_t unit, chance *by);
+void try_midnights(uint64_t unit, chance *by);
+void try_sums(uint64_t unit, chance *by);
+void try_random_instants(uint64_t unit, chance *by);
 
 uint64_t number_edge_units(void);
 uint64_t moment_edge_units(void);
+uint64_t instant_edge_units(void);
 
 #endif

@@ -1,5 +1,5 @@
 /* Answers the second program's cases (a line each on standard input, as second/cases.py has them) by the plain C version, so that what is
- * measured beside the library is known to do the same work. */
+ * measured beside the library is known to do the same work. A line that is no case is answered by '?', as is a call that refuses and yet gives. */
 #include <inttypes.h>
 #include <stdio.h>
 #include <string.h>
@@ -15,7 +15,7 @@ static void print_hex(const uint8_t *octets, size_t count)
         printf("%02X", octets[i]);
 }
 
-static void answer_write(const char *line)
+static bool answer_write(const char *line)
 {
     uint32_t kind, year, month, day, binary, version, digits;
     uint64_t micros;
@@ -24,46 +24,130 @@ static void answer_write(const char *line)
     uint8_t lent[64];
     uint32_t number;
     if (sscanf(line, "W %" SCNu32 " %" SCNu32 " %" SCNu32 " %" SCNu32 " %" SCNu64 " %" SCNd32 " %" SCNu32 " %" SCNu32 " %" SCNu32 " %zu",
-               &kind, &year, &month, &day, &micros, &offset, &binary, &version, &digits, &room) != 10 || room > sizeof lent) {
-        puts("?");
-        return;
-    }
+               &kind, &year, &month, &day, &micros, &offset, &binary, &version, &digits, &room) != 10 || room > sizeof lent)
+        return false;
     memset(lent, 0x5A, sizeof lent);
     number = plain_write(kind, year, month, day, micros, offset, binary != 0, version, digits, lent, room, &count);
     printf("%" PRIu32 " %zu ", number, count);
     print_hex(lent, room);
     putchar('\n');
+    return true;
 }
 
-static void answer_read(const char *line)
+/* The numbers that a call gives, all LENT before it. */
+enum { MOST_GIVEN = 8 };
+#define LENT INT64_C(0x5A5A5A5A5A5A5A5A)
+
+typedef struct {
+    int64_t numbers[MOST_GIVEN];
+} given;
+
+static given lent_numbers(void)
 {
-    uint32_t kind, number;
+    given lent;
+    int i;
+    for (i = 0; i < MOST_GIVEN; i++)
+        lent.numbers[i] = LENT;
+    return lent;
+}
+
+static bool print_given(uint32_t number, const given *after, int count)
+{
+    const given lent = lent_numbers();
+    int i;
+    if (number != 0 && memcmp(after, &lent, sizeof lent) != 0)
+        return false;
+    printf("%" PRIu32, number);
+    for (i = 0; number == 0 && i < count; i++)
+        printf(" %" PRId64, after->numbers[i]);
+    putchar('\n');
+    return true;
+}
+
+static bool answer_read(const char *line)
+{
+    uint32_t kind;
     char hex[160];
     uint8_t octets[80];
     size_t length = 0;
     unsigned octet;
-    int64_t parts[8];
-    int i;
-    if (sscanf(line, "R %" SCNu32 " %159s", &kind, hex) != 2) {
-        puts("?");
-        return;
-    }
+    given lent = lent_numbers();
+    if (sscanf(line, "R %" SCNu32 " %159s", &kind, hex) != 2)
+        return false;
     while (hex[0] != '-' && length < sizeof octets && sscanf(hex + 2 * length, "%2x", &octet) == 1)
         octets[length++] = (uint8_t)octet;
-    number = plain_read(kind, octets, length, parts);
-    printf("%" PRIu32, number);
-    for (i = 0; number == 0 && i < 8; i++)
-        printf(" %" PRId64, parts[i]);
-    putchar('\n');
+    return print_given(plain_read(kind, octets, length, lent.numbers), &lent, 8);
+}
+
+static bool answer_instant(const char *line)
+{
+    uint32_t year, month, day;
+    uint64_t micros;
+    int32_t offset;
+    given lent = lent_numbers();
+    if (sscanf(line, "I %" SCNu32 " %" SCNu32 " %" SCNu32 " %" SCNu64 " %" SCNd32, &year, &month, &day, &micros, &offset) != 5)
+        return false;
+    return print_given(plain_instant(year, month, day, micros, offset, lent.numbers), &lent, 1);
+}
+
+static bool answer_add(const char *line)
+{
+    int64_t instant, micros;
+    given lent = lent_numbers();
+    if (sscanf(line, "A %" SCNd64 " %" SCNd64, &instant, &micros) != 2)
+        return false;
+    return print_given(plain_add(instant, micros, lent.numbers), &lent, 1);
+}
+
+static bool answer_difference(const char *line)
+{
+    int64_t a, b;
+    given lent = lent_numbers();
+    if (sscanf(line, "D %" SCNd64 " %" SCNd64, &a, &b) != 2)
+        return false;
+    return print_given(plain_difference(a, b, lent.numbers), &lent, 1);
+}
+
+static bool answer_at(const char *line)
+{
+    int64_t instant;
+    int32_t offset;
+    given lent = lent_numbers();
+    if (sscanf(line, "T %" SCNd64 " %" SCNd32, &instant, &offset) != 2)
+        return false;
+    return print_given(plain_at(instant, offset, lent.numbers), &lent, 5);
+}
+
+static bool answer_restate(const char *line)
+{
+    uint32_t year, month, day;
+    uint64_t micros;
+    int32_t offset, to;
+    given lent = lent_numbers();
+    if (sscanf(line, "S %" SCNu32 " %" SCNu32 " %" SCNu32 " %" SCNu64 " %" SCNd32 " %" SCNd32, &year, &month, &day, &micros, &offset, &to) != 6)
+        return false;
+    return print_given(plain_restate(year, month, day, micros, offset, to, lent.numbers), &lent, 5);
+}
+
+static bool answer(const char *line)
+{
+    switch (line[0]) {
+    case 'W': return answer_write(line);
+    case 'R': return answer_read(line);
+    case 'I': return answer_instant(line);
+    case 'A': return answer_add(line);
+    case 'D': return answer_difference(line);
+    case 'T': return answer_at(line);
+    case 'S': return answer_restate(line);
+    default: return false;
+    }
 }
 
 int main(void)
 {
     char line[256];
     while (fgets(line, sizeof line, stdin) != NULL)
-        if (line[0] == 'W')
-            answer_write(line);
-        else
-            answer_read(line);
+        if (!answer(line))
+            puts("?");
     return 0;
 }

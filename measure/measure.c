@@ -13,70 +13,19 @@
 #include "measured.h"
 #include "plain.h"
 #include "stamp.h"
+#include "values.h"
 
-enum { VALUES = 4096, TURNS = 101 };
-enum { LAST_NUMBER = 3652058, LAST_COMPACT_YEAR = 6428 };
+enum { TURNS = 101 };
 
-/* ---- the values ---- */
-
-/* A kind to write or read, in a form. */
-typedef struct {
-    uint32_t kind;                      /* one of the nine: an either-or reader has samples of both its kinds */
-    uint32_t form;
-    uint32_t digits;                    /* of a text */
-} stamps;
-
-typedef struct {
-    stamp_value value;
-    uint32_t number;                    /* a day number */
-    uint8_t octets[STAMP_LONGEST_IMAGE];
-    size_t length;
-} sample;
-
-static sample samples[VALUES];
 static uint64_t kept;                   /* every answer goes here, so that no call is left out */
 
-/* Fixed seed: every process measures the same values. */
-static uint64_t chance(uint64_t below)
-{
-    static uint64_t state = UINT64_C(0x9E3779B97F4A7C15);
-    state ^= state << 13;
-    state ^= state >> 7;
-    state ^= state << 17;
-    return state % below;
-}
-
-static stamp_settings settings_for(const stamps *r)
-{
-    const bool extended = r->form == STAMP_EXTENDED;
-    return stamp_make_settings(r->form != STAMP_TEXT, extended ? STAMP_EXTENDED_FROM : 0, extended ? STAMP_MAX_DIGITS : r->digits);
-}
-
-/* No kind has an offset of zero here: compact, it would be written as the plain kind. */
-static void fill(const stamps *r)
-{
-    for (int i = 0; i < VALUES; i++) {
-        sample *s = &samples[i];
-        const uint32_t kind = r->kind < STAMP_KINDS ? r->kind : 2 * (r->kind - STAMP_KINDS) + (uint32_t)chance(2);
-        const uint32_t year = 1 + (uint32_t)chance(LAST_COMPACT_YEAR), month = 1 + (uint32_t)chance(12);
-        const uint32_t day = 1 + (uint32_t)chance(28);
-        const uint64_t micros = chance(STAMP_END_OF_DAY);
-        const int32_t offset = (int32_t)(1 + chance(STAMP_MAX_OFFSET)) * (chance(2) ? 1 : -1);
-        s->value = stamp_make_value(kind, year, month, day, micros, offset);
-        s->number = (uint32_t)chance(LAST_NUMBER + 1);
-        if (stamp_encode(&s->value, settings_for(r), s->octets, sizeof s->octets, &s->length) != STAMP_ACCEPTED) {
-            fprintf(stderr, "measure: a value was refused\n");
-            exit(1);
-        }
-    }
-}
-
-/* ---- the work: one pass over the values, ours and plain, and whether both accept and answer the same ---- */
+/* ---- the work: the values, one pass over them, ours and plain, and whether both accept and answer the same ---- */
 
 typedef struct {
+    void (*fill)(const stamps *);
     void (*ours)(const stamps *);
     void (*plain)(const stamps *);
-    bool (*same)(const stamps *, const sample *);
+    bool (*same)(const stamps *, int i);
 } work;
 
 typedef uint32_t writer(uint32_t kind, uint32_t year, uint32_t month, uint32_t day, uint64_t micros, int32_t offset,
@@ -103,8 +52,9 @@ static inline void write_all(writer *write, const stamps *r)
 static void write_ours(const stamps *r) { write_all(stamp_write, r); }
 static void write_plain(const stamps *r) { write_all(plain_write, r); }
 
-static bool write_same(const stamps *r, const sample *s)
+static bool write_same(const stamps *r, int i)
 {
+    const sample *s = &samples[i];
     uint8_t octets[2][STAMP_LONGEST_IMAGE] = {{0}};
     size_t count[2];
     const stamp_settings t = settings_for(r);
@@ -113,6 +63,8 @@ static bool write_same(const stamps *r, const sample *s)
     return ours == STAMP_ACCEPTED && plain == STAMP_ACCEPTED && count[0] == count[1]
         && memcmp(octets[0], octets[1], sizeof octets[0]) == 0;
 }
+
+static const work writing = {fill_stamps, write_ours, write_plain, write_same};
 
 typedef uint32_t reader(uint32_t kind, const uint8_t *octets, size_t length, int64_t parts[8]);
 
@@ -128,13 +80,16 @@ static inline void read_all(reader *read, const stamps *r)
 static void read_ours(const stamps *r) { read_all(stamp_read, r); }
 static void read_plain(const stamps *r) { read_all(plain_read, r); }
 
-static bool read_same(const stamps *r, const sample *s)
+static bool read_same(const stamps *r, int i)
 {
+    const sample *s = &samples[i];
     int64_t parts[2][8] = {{0}};
     const uint32_t ours = stamp_read(r->kind, s->octets, s->length, parts[0]);
     const uint32_t plain = plain_read(r->kind, s->octets, s->length, parts[1]);
     return ours == STAMP_ACCEPTED && plain == STAMP_ACCEPTED && memcmp(parts[0], parts[1], sizeof parts[0]) == 0;
 }
+
+static const work reading = {fill_stamps, read_ours, read_plain, read_same};
 
 /* OURS and PLAIN are the calls on the sample s. */
 #define CALENDAR_WORK(name, OURS, PLAIN) \
@@ -150,15 +105,54 @@ static bool read_same(const stamps *r, const sample *s)
         for (const sample *s = samples; s < samples + VALUES; s++) \
             kept += (uint64_t)(PLAIN); \
     } \
-    static bool name##_same(const stamps *r, const sample *s) \
+    static bool name##_same(const stamps *r, int i) \
     { \
+        const sample *s = &samples[i]; \
         (void)r; \
         return (OURS) == (PLAIN); \
-    }
+    } \
+    static const work name##_work = {fill_stamps, name##_ours, name##_plain, name##_same};
 
 CALENDAR_WORK(number, measured_day_number(s->value.year, s->value.month, s->value.day),
               plain_day_number(s->value.year, s->value.month, s->value.day))
 CALENDAR_WORK(date, measured_date_of(s->number), plain_date_of(s->number))
+
+/* One pass of a call on instants, which gives one number or five. The shortest take as long as adding to `kept`, which is in
+ * memory: so what they give is added up beside it. */
+#define INSTANT_PASS(pass, CALL, ...) \
+    static void pass(const stamps *r) \
+    { \
+        int64_t given[5] = {0}; \
+        uint64_t sum = 0; \
+        (void)r; \
+        for (const moment *m = moments; m < moments + VALUES; m++) { \
+            sum += CALL(__VA_ARGS__, given); \
+            sum += (uint64_t)given[0]; \
+        } \
+        kept += sum; \
+    }
+
+/* The call stamp_NAME beside plain_NAME; behind the name, what is handed in of the moment m. */
+#define INSTANT_WORK(name, ...) \
+    INSTANT_PASS(name##_ours, stamp_##name, __VA_ARGS__) \
+    INSTANT_PASS(name##_plain, plain_##name, __VA_ARGS__) \
+    static bool name##_same(const stamps *r, int i) \
+    { \
+        const moment *m = &moments[i]; \
+        int64_t given[2][5] = {{0}}; \
+        const uint32_t ours = stamp_##name(__VA_ARGS__, given[0]), plain = plain_##name(__VA_ARGS__, given[1]); \
+        (void)r; \
+        return ours == STAMP_ACCEPTED && plain == STAMP_ACCEPTED && memcmp(given[0], given[1], sizeof given[0]) == 0; \
+    } \
+    static const work name##_work = {fill_moments, name##_ours, name##_plain, name##_same};
+
+#define PARTS m->value.year, m->value.month, m->value.day, m->value.micros, m->value.offset
+
+INSTANT_WORK(instant, PARTS)
+INSTANT_WORK(add, m->instant, m->added)
+INSTANT_WORK(difference, m->instant, m->other)
+INSTANT_WORK(at, m->instant, m->to)
+INSTANT_WORK(restate, PARTS, m->to)
 
 /* ---- turns ---- */
 
@@ -192,7 +186,7 @@ static double median(double times[TURNS])
 static void compare(const char *name, const work *w, const stamps *r)
 {
     for (int i = 0; i < VALUES; i++)
-        if (!w->same(r, &samples[i])) {
+        if (!w->same(r, i)) {
             fprintf(stderr, "measure: %s: ours and plain differ, or refuse\n", name);
             exit(1);
         }
@@ -201,7 +195,7 @@ static void compare(const char *name, const work *w, const stamps *r)
 static void report(const char *name, work w, stamps r)
 {
     double ours[TURNS], plain[TURNS];
-    fill(&r);
+    w.fill(&r);
     compare(name, &w, &r);
     nanoseconds(w.ours, &r);
     nanoseconds(w.plain, &r);
@@ -224,7 +218,6 @@ static bool timed(uint32_t kind) { return kind < STAMP_KINDS ? kind >= STAMP_TIM
 
 static void report_stamps(uint32_t kind, uint32_t form)
 {
-    const work writing = {write_ours, write_plain, write_same}, reading = {read_ours, read_plain, read_same};
     const stamps r = {kind, form, STAMP_DEFAULT_DIGITS};
     char name[80];
     if (form == STAMP_EXTENDED && !timed(kind))
@@ -239,7 +232,6 @@ static void report_stamps(uint32_t kind, uint32_t form)
 /* 02, request 1: of a text with an offset the either-or readers also look at the octet behind the seconds. */
 static void report_without_fraction(uint32_t kind)
 {
-    const work reading = {read_ours, read_plain, read_same};
     const stamps r = {kind, STAMP_TEXT, 0};
     char name[80];
     snprintf(name, sizeof name, "read %s, text without fraction", reader_name(kind));
@@ -248,7 +240,6 @@ static void report_without_fraction(uint32_t kind)
 
 int main(void)
 {
-    const work number = {number_ours, number_plain, number_same}, date = {date_ours, date_plain, date_same};
     const stamps any = {STAMP_DATE, STAMP_TEXT, STAMP_DEFAULT_DIGITS};
     printf("compiler\t%s, %s\nvalues\t%d\nturns\t%d\n", __VERSION__, LEVEL, VALUES, TURNS);
     for (uint32_t form = 0; form < STAMP_FORMS; form++)
@@ -256,7 +247,12 @@ int main(void)
             report_stamps(kind, form);
     report_without_fraction(STAMP_TIME_OR_TIMETZ);
     report_without_fraction(STAMP_DATETIME_OR_DATETIMETZ);
-    report("day number of a date", number, any);
-    report("date of a day number", date, any);
+    report("day number of a date", number_work, any);
+    report("date of a day number", date_work, any);
+    report("instant of a DatetimeTz", instant_work, any);
+    report("sum of an instant and microseconds", add_work, any);
+    report("difference of two instants", difference_work, any);
+    report("DatetimeTz of an instant at an offset", at_work, any);
+    report("restate a DatetimeTz at another offset", restate_work, any);
     return kept == 0;
 }

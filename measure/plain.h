@@ -1,4 +1,4 @@
-/* Reads and writes the contents octets of date-and-time stamps: the plain C version.
+/* Reads and writes the contents octets of date-and-time stamps, and reckons with their UTC instants: the plain C version.
  *
  * C99 with the builtins and attributes that gcc and clang share. No allocation, no state, no library call but
  * memcpy of a fixed 2, 4 or 8 octets, which compiles to one load or store.
@@ -13,7 +13,7 @@
 #include <stddef.h>
 #include <stdint.h>
 
-/* Refusal numbers; 0 is none. Writers test 1 to 4 in this order, readers 5 to 8. */
+/* Refusal numbers; 0 is none. Writers test 1 to 4 in this order, readers 5 to 8, the calls on instants 2 and 9. */
 enum {
     PLAIN_ACCEPTED = 0,
     PLAIN_BAD_DIGITS = 1,       /* digits above 6 */
@@ -23,7 +23,8 @@ enum {
     PLAIN_BAD_LENGTH = 5,       /* not a length of the chosen form */
     PLAIN_BAD_OCTET = 6,        /* a wrong digit, sign or separator; reserved bits that are not zero */
     PLAIN_NOT_SHORTEST = 7,     /* redundant octets, a zero offset that should have been left out, -00:00 */
-    PLAIN_OUT_OF_RANGE = 8      /* a field read is out of its range */
+    PLAIN_OUT_OF_RANGE = 8,     /* a field read is out of its range */
+    PLAIN_BAD_RESULT = 9        /* no stamp has such an instant, or the local reading is outside the years 1 to 9999 */
 };
 
 /* Places in the parts of an accepted read. */
@@ -46,5 +47,16 @@ int32_t plain_day_number(uint32_t year, uint32_t month, uint32_t day);
 
 /* The date of a day number as year * 10000 + month * 100 + day; 0 for no such number. */
 uint32_t plain_date_of(uint32_t number);
+
+/* Instants: microseconds from 0001-01-01T00:00 UTC, of a DatetimeTz its local reading less its offset; 24:00 counts as
+ * the next day's start. Each call gives the refusal number: 2 where a stamp, an offset or an instant that is handed in
+ * is out of its range, then 9 where the result is. *instant, *sum, *difference and parts are as lent after a refusal.
+ * Parts: year, month, day, micros, offset; never 24:00. */
+uint32_t plain_instant(uint32_t year, uint32_t month, uint32_t day, uint64_t micros, int32_t offset, int64_t *instant);
+uint32_t plain_add(int64_t instant, int64_t micros, int64_t *sum);
+uint32_t plain_difference(int64_t a, int64_t b, int64_t *difference);
+uint32_t plain_at(int64_t instant, int32_t offset, int64_t parts[5]);
+uint32_t plain_restate(uint32_t year, uint32_t month, uint32_t day, uint64_t micros, int32_t offset, int32_t to,
+                       int64_t parts[5]);
 
 #endif

@@ -11,15 +11,18 @@ import shutil
 import subprocess
 import sys
 import tempfile
+import textwrap
 from pathlib import Path
 
 ROOT = Path(__file__).resolve().parent.parent
 sys.path.insert(0, str(ROOT / 'tool' / 'tests'))
 from transcripts import README, readme_cases, tried  # noqa: E402
 
+RELEASE = '1.2'
+SHARED = f'libstamp.so.{RELEASE}'
 # What is installed, each file with its mode, each link with where it leads.
-INSTALLED = {'bin/stamp': '755', 'include/stamp.h': '644', 'lib/libstamp.a': '644', 'lib/libstamp.so': 'libstamp.so.1', 'lib/libstamp.so.1': 'libstamp.so.1.1',
-             'lib/libstamp.so.1.1': '755', 'lib/pkgconfig/stamp.pc': '644', 'share/man/man1/stamp.1': '644'}
+INSTALLED = {'bin/stamp': '755', 'include/stamp.h': '644', 'lib/libstamp.a': '644', 'lib/libstamp.so': 'libstamp.so.1', 'lib/libstamp.so.1': SHARED,
+             f'lib/{SHARED}': '755', 'lib/pkgconfig/stamp.pc': '644', 'share/man/man1/stamp.1': '644'}
 passed = failed = 0
 
 
@@ -72,7 +75,7 @@ class Installation:
         own = str(self.library.relative_to(self.root)) + '/'
         self.files = {name.replace('lib/', own, 1) if name.startswith('lib/') else name: mode for name, mode in INSTALLED.items()}
         self.pc = ['prefix=' + str(prefix), 'libdir=' + str(libdir).replace(f'{prefix}/', '${prefix}/'), 'Name: stamp',
-                   'Description: dates and times in the BDE BER date-and-time format, proved', 'Version: 1.1',
+                   'Description: dates and times in the BDE BER date-and-time format, proved', f'Version: {RELEASE}',
                    'Cflags: -I${prefix}/include', 'Libs: -L${libdir} -lstamp']
 
 
@@ -86,7 +89,7 @@ def try_install(each):
     make('install', *each.words)
     expect(f'what is installed by {each.words}', each.files, files_in(each.root))
     expect(f'stamp.pc after {each.words}', each.pc, (each.library / 'pkgconfig/stamp.pc').read_text().splitlines())
-    expect('the release', 'stamp 1.1\n', output(str(each.root / 'bin/stamp'), '-V')[0])
+    expect('the release', f'stamp {RELEASE}\n', output(str(each.root / 'bin/stamp'), '-V')[0])
 
 
 def try_uninstall(each):
@@ -99,7 +102,7 @@ def try_uninstall(each):
 
 
 def try_shared(prefix):
-    shared = prefix / 'lib/libstamp.so.1.1'
+    shared = prefix / 'lib' / SHARED
     expect('the soname', ['libstamp.so.1'], dynamic(shared, 'SONAME'))
     expect('libraries that the library needs', [], dynamic(shared, 'NEEDED'))
     printed, _ = output('nm', '-D', '--defined-only', str(shared))
@@ -111,7 +114,7 @@ def try_readme(scratch, prefix):
     """The README's commands but those of the tool, as they stand, in a folder that has what the repository's root has."""
     root = scratch / 'root'
     root.mkdir()
-    for name in ('include', 'examples', 'libstamp.a', 'libstamp.so.1.1'):
+    for name in ('include', 'examples', 'libstamp.a', SHARED):
         (root / name).symlink_to(ROOT / name)
     environment = dict(PKG_CONFIG_PATH=f'{prefix}/lib/pkgconfig', LD_LIBRARY_PATH=f'{prefix}/lib')
     linked = {'-static': [], '--libs': ['libstamp.so.1'], 'libstamp.a': []}
@@ -131,13 +134,13 @@ def try_readme(scratch, prefix):
 
 
 def try_printed():
-    """The README prints the examples as they are; of Rust's, the block of the functions."""
+    """The README prints the examples as they are; of the sites', the calls that it is about, and of Rust's, the block of the functions."""
     readme = Path(README).read_text()
-    rust = (ROOT / 'examples/as_text.rs').read_text()
-    block = rust[rust.index('#[link'):rust.index('fn main')].strip()
-    for name, text in (('roundtrip.c', None), ('as_text.py', None), ('as_text.rs', block)):
-        text = text or (ROOT / 'examples' / name).read_text()
-        expect(f'examples/{name} is in the README', True, text in readme)
+    for name, start, end in (('roundtrip.c', '', None), ('sites.c', '    accepted(stamp_decode', '    print_stamp("first'), ('as_text.py', '', None),
+                             ('as_text.rs', '#[link', 'fn main')):
+        text = (ROOT / 'examples' / name).read_text()
+        text = textwrap.dedent(text[text.index(start):text.index(end) if end else None]).strip()
+        expect(f'examples/{name} is in the README', True, f'\n{text}\n```\n' in readme)
 
 
 def try_targets():

@@ -1,5 +1,5 @@
 #!/usr/bin/env python3
-"""Writes the cases and their answers: cases.py writing|reading OUTDIR
+"""Writes the cases and their answers: cases.py writing|reading|instants OUTDIR
 
 Two text files, `cases` and `answers`; line i of one belongs to line i of the
 other. Fields are separated by one space, every line ends with a newline.
@@ -10,8 +10,22 @@ other. Fields are separated by one space, every line ends with a newline.
         answer: number                (after a refusal), or
                 0 kind form digits year month day micros offset
 
-Each lent octet is 5A before the call. Afterwards a table is printed: how many
-cases of each kind have each answer number.
+Instants (02, request 2); a refused one has only its number as answer:
+
+    I year month day micros offset    answer: 0 instant
+    A instant micros                  (an instant and a number added)
+        answer: 0 sum
+    D a b                             answer: 0 difference
+    T instant offset                  (the stamp of an instant at an offset)
+        answer: 0 year month day micros offset
+    S year month day micros offset to (a stamp restated at an offset)
+        answer: 0 year month day micros offset
+
+Years, months, days, kinds, versions and digits are unsigned numbers of 32 bits,
+the micros of a day unsigned of 64, offsets signed of 32, instants and micros that
+are added signed of 64. Each lent octet is 5A before the call. Afterwards a table
+is printed: how many cases of each kind, or of each letter of instants, have each
+answer number.
 """
 
 import os
@@ -46,25 +60,40 @@ def reading_lines():
         yield "R %d %s" % (kind, hex_or_dash(octets)), answer_line
 
 
+def instant_lines():
+    from instant_cases import CALLS, instant_cases
+    for letter, *numbers in instant_cases():
+        answer = CALLS[letter](*numbers)
+        answer_line = fields(answer) if isinstance(answer, tuple) else str(answer)
+        yield letter + " " + fields(numbers), answer_line
+
+
+def row_of(case):
+    """The kind of a W or R, the letter of another."""
+    letter, first = case.split()[:2]
+    return first if letter in "WR" else letter
+
+
 def print_table(lines):
-    """Kinds down, answer numbers across."""
+    """Kinds or letters down, answer numbers across."""
     count = {}
     for case, answer in lines:
-        place = int(case.split()[1]), int(answer.split()[0])
+        place = row_of(case), int(answer.split()[0])
         count[place] = count.get(place, 0) + 1
-    kinds = sorted({kind for kind, _ in count})
+    rows = sorted({row for row, _ in count})
     numbers = sorted({number for _, number in count})
     print("kind" + "".join("%8d" % number for number in numbers))
-    for kind in kinds:
-        print("%4d" % kind + "".join(
-            "%8d" % count.get((kind, number), 0) for number in numbers))
+    for row in rows:
+        print("%4s" % row + "".join(
+            "%8d" % count.get((row, number), 0) for number in numbers))
     print("%d cases" % len(lines))
 
 
 def main():
-    makers = {"writing": writing_lines, "reading": reading_lines}
+    makers = {"writing": writing_lines, "reading": reading_lines,
+              "instants": instant_lines}
     if len(sys.argv) != 3 or sys.argv[1] not in makers:
-        sys.exit("usage: cases.py writing|reading OUTDIR")
+        sys.exit("usage: cases.py writing|reading|instants OUTDIR")
     lines = list(makers[sys.argv[1]]())
     os.makedirs(sys.argv[2], exist_ok=True)
     for column, name in enumerate(("cases", "answers")):

@@ -1,10 +1,10 @@
-"""What writing and reading share: the numbers of document 01 and the calendar's
-own rules, and nothing else.
+"""What writing, reading and instants share: the numbers of document 01 and the
+calendar's own rules, and nothing else.
 
 Sources named in all files: "01" is 01-scope.md, which rules; "02" is the
-requests that came later, of which request 1 changes a rule of 01; "000" is the
-BDE BER Date-and-Time Format 1.0; "B1" to "B40" and "R1.1" are entries of
-docs/DECISIONS.md.
+requests that came later, of which request 1 changes a rule of 01 and request 2
+adds instants; "000" is the BDE BER Date-and-Time Format 1.0; "B1" to "B40",
+"R1.1" and "R2.1" to "R2.5" are entries of docs/DECISIONS.md.
 """
 
 DATE, DATE_TZ, TIME, TIME_TZ, DATETIME, DATETIME_TZ = 0, 1, 2, 3, 4, 5

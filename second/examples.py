@@ -2,7 +2,8 @@
 
 A writing example: (kind, year, month, day, micros, offset, binary, version,
 digits) and (refusal, octets in hex). A reading example: kind, octets, answer.
-The answers here are copied from the documents or worked out by hand.
+An example of instants: letter of the call, what is handed in, answer. The
+answers here are copied from the documents or worked out by hand.
 """
 
 from common import *
@@ -224,4 +225,101 @@ REQUEST_1 = (
     (DATE_OR_TZ, b"2020-01-01-04:30",
      value(DATE_TZ, TEXT, 0, 2020, 1, 1, 0, -270)),
     (DATE_OR_TZ, b"12:00:00+04:30", 5),
+)
+
+# 02, request 2 (R2.1 to R2.5): the letter of the call in cases.py, what is
+# handed in, and the answer. The sentences are the request's.
+FIRST, LAST = -86_340_000_000, 315_537_983_940_000_000
+OF_1970, OF_2020 = 62_135_596_800_000_000, 63_713_433_600_000_000
+HALF_HOUR, MINUTE = 1_800_000_000, 60_000_000
+LEAST_64, MOST_64 = -9_223_372_036_854_775_808, 9_223_372_036_854_775_807
+
+REQUEST_2 = (
+    # "microseconds from 0001-01-01T00:00 UTC, signed, as local reading less
+    # offset"
+    ("I", (1, 1, 1, 0, 0), (0, 0)),
+    ("I", (1, 1, 1, 1, 0), (0, 1)),
+    ("I", (1970, 1, 1, 0, 0), (0, OF_1970)),
+    ("I", (2020, 1, 1, 0, 0), (0, OF_2020)),
+    ("I", (2020, 1, 1, 0, 30), (0, OF_2020 - HALF_HOUR)),
+    ("I", (2020, 1, 1, 0, -30), (0, OF_2020 + HALF_HOUR)),
+    ("I", (1, 1, 1, 0, 1), (0, -MINUTE)),
+    ("I", (1, 1, 1, 0, 1439), (0, FIRST)),                          # R2.1
+    ("I", (9999, 12, 31, END, -1439), (0, LAST)),
+    ("I", (9999, 12, 31, END, 0), (0, 315_537_897_600_000_000)),
+    # "24:00 counts as the next day's start."
+    ("I", (2019, 12, 31, END, 0), (0, OF_2020)),
+    ("I", (2019, 12, 31, END, -30), (0, OF_2020 + HALF_HOUR)),
+    # "Add a signed 64-bit number of microseconds to an instant"
+    ("A", (OF_1970, 1_577_836_800_000_000), (0, OF_2020)),
+    ("A", (OF_2020, -1_577_836_800_000_000), (0, OF_1970)),
+    ("A", (0, -1), (0, -1)),
+    ("A", (FIRST, 315_538_070_280_000_000), (0, LAST)),             # R2.4
+    ("A", (LAST, -315_538_070_280_000_000), (0, FIRST)),
+    # "take the difference of two": a less b (R2.5)
+    ("D", (OF_2020, OF_1970), (0, 1_577_836_800_000_000)),
+    ("D", (LAST, FIRST), (0, 315_538_070_280_000_000)),
+    ("D", (0, -1), (0, 1)),
+    ("D", (LAST, LAST), (0, 0)),
+    # "restate a stamp at another offset"
+    ("S", (2020, 1, 1, 0, 30, -30), (0, 2019, 12, 31, END - 2 * HALF_HOUR, -30)),
+    ("S", (2020, 2, 28, END - HALF_HOUR, 0, 30), (0, 2020, 2, 29, 0, 30)),
+    ("S", (2021, 2, 28, END - HALF_HOUR, 0, 30), (0, 2021, 3, 1, 0, 30)),
+    ("S", (2020, 3, 1, 0, 1, 0), (0, 2020, 2, 29, END - MINUTE, 0)),
+    ("S", (2019, 12, 31, NOON, -1439, 1439),
+     (0, 2020, 1, 2, NOON - 2 * MINUTE, 1439)),
+    ("S", (2020, 1, 2, NOON - 2 * MINUTE, 1439, -1439),
+     (0, 2019, 12, 31, NOON, -1439)),
+    ("S", (1969, 12, 31, END - 1, 0, 0), (0, 1969, 12, 31, END - 1, 0)),
+    # "(the result never uses 24:00)"
+    ("S", (2019, 12, 31, END, -30, -30), (0, 2020, 1, 1, 0, -30)),
+    ("S", (2020, 1, 1, HALF_HOUR, 30, 0), (0, 2020, 1, 1, 0, 0)),
+    ("T", (OF_2020, 0), (0, 2020, 1, 1, 0, 0)),
+    ("T", (OF_2020, -30), (0, 2019, 12, 31, END - HALF_HOUR, -30)),
+    ("T", (-1, 1), (0, 1, 1, 1, MINUTE - 1, 1)),
+    ("T", (FIRST, 1439), (0, 1, 1, 1, 0, 1439)),
+    ("T", (LAST - 1, -1439), (0, 9999, 12, 31, END - 1, -1439)),
+    # "Adding zero changes nothing"
+    ("A", (FIRST, 0), (0, FIRST)),
+    ("A", (LAST, 0), (0, LAST)),
+    # "the difference of a and b is the negative of that of b and a"
+    ("D", (OF_1970, OF_2020), (0, -1_577_836_800_000_000)),
+    ("D", (FIRST, LAST), (0, -315_538_070_280_000_000)),
+    # "2, a stamp, offset or instant handed in that is out of range"
+    ("I", (0, 12, 31, END, 0), 2),
+    ("I", (10_000, 1, 1, 0, 1439), 2),
+    ("I", (1900, 2, 29, 0, 0), 2),
+    ("I", (2020, 1, 1, END + 1, 0), 2),
+    ("I", (2020, 1, 1, 0, 1440), 2),
+    ("S", (2020, 1, 1, 0, -1440, 0), 2),
+    ("S", (2020, 1, 1, 0, 0, -1440), 2),
+    ("T", (OF_2020, 1440), 2),
+    # "(for an instant: one that no stamp has)"
+    ("A", (FIRST - 1, 1), 2),
+    ("A", (LAST + 1, -1), 2),
+    ("A", (LEAST_64, MOST_64), 2),
+    ("D", (LAST + 1, LAST + 1), 2),
+    ("D", (0, FIRST - 1), 2),
+    ("T", (LAST + 1, -1439), 2),
+    ("T", (FIRST - 1, 1439), 2),
+    # "then 9, the result isn't representable (an instant that no stamp has"
+    ("A", (FIRST, -1), 9),
+    ("A", (LAST, 1), 9),
+    ("A", (0, MOST_64), 9),
+    ("A", (0, LEAST_64), 9),
+    # "or a local reading outside years 1 to 9999)"
+    ("T", (0, -1), 9),
+    ("T", (-1, 0), 9),
+    ("T", (LAST, -1439), 9),                                        # R2.2
+    ("T", (LAST, 0), 9),
+    ("S", (1, 1, 1, 0, 0, -1), 9),
+    ("S", (1, 1, 1, MINUTE - 1, 1, 0), 9),
+    ("S", (9999, 12, 31, END - MINUTE, 0, 1), 9),
+    ("S", (9999, 12, 31, END, 0, 0), 9),                            # R2.2
+    ("S", (9999, 12, 31, END, 0, -1), (0, 9999, 12, 31, END - MINUTE, -1)),
+    # 2 before 9 (R2.3)
+    ("S", (9999, 12, 31, END, 0, 1440), 2),
+    ("S", (1, 1, 1, 0, 1440, 0), 2),
+    ("A", (LAST + 1, 1), 2),
+    ("T", (0, -1440), 2),
 )

@@ -1,6 +1,6 @@
-/* fast.h - the second program made fast: the rules of writing.py, reading.py and common.py in C, for comparing over
- * many millions of inputs. Same parameters and same answers as stamp_write and stamp_read; include/stamp.h says what
- * each part means. Nothing of the library is used here. */
+/* fast.h - the second program made fast: the rules of writing.py, reading.py, instants.py and common.py in C, for
+ * comparing over many millions of inputs. Same parameters and same answers as stamp_write, stamp_read and the calls on
+ * instants; include/stamp.h says what each part means. Nothing of the library is used here. */
 #ifndef FAST_H
 #define FAST_H
 
@@ -12,5 +12,16 @@ uint32_t fast_write(uint32_t kind, uint32_t year, uint32_t month, uint32_t day, 
                     bool binary, uint32_t version, uint32_t digits, uint8_t *octets, size_t room, size_t *count);
 
 uint32_t fast_read(uint32_t kind, const uint8_t *octets, size_t length, int64_t parts[8]);
+
+uint32_t fast_instant(uint32_t year, uint32_t month, uint32_t day, uint64_t micros, int32_t offset, int64_t *instant);
+
+uint32_t fast_add(int64_t instant, int64_t micros, int64_t *sum);
+
+uint32_t fast_difference(int64_t a, int64_t b, int64_t *difference);
+
+uint32_t fast_at(int64_t instant, int32_t offset, int64_t parts[5]);
+
+uint32_t fast_restate(uint32_t year, uint32_t month, uint32_t day, uint64_t micros, int32_t offset, int32_t to,
+                      int64_t parts[5]);
 
 #endif

@@ -1,17 +1,22 @@
 """The self-test: python3 stamp.py --self-test
 
 Checks the calendar against Python's datetime for every day there is, the
-examples of the documents, and that writing and reading, which share no
-procedure, agree: see the docstrings.
+examples of the documents, that writing and reading, which share no procedure,
+agree, and instants against datetime and their laws: see the docstrings.
 """
 
 import datetime
 
 import examples
+import instants
 import reading
 import writing
 from chance import Chance
 from common import *
+from instant_cases import (CALLS, instant_cases, some_instant, some_number,
+                           some_offset, some_stamp)
+from instants import FIRST_INSTANT, LAST_INSTANT, add, at, difference, restate
+from instants_by_datetime import BY_DATETIME
 from reading import read
 from reading_cases import reading_cases
 from reading_rules import EITHER
@@ -20,8 +25,10 @@ from writing_cases import writing_cases
 
 
 def test_calendar():
-    """Both directions and "is there such a day", for all ordinals."""
+    """Both directions and "is there such a day", for all ordinals; the days
+    beside each day."""
     number = 0
+    before = (0, 12, 31)
     for year in range(1, 10_000):
         for month in range(1, 13):
             for day in range(0, 33):
@@ -33,7 +40,13 @@ def test_calendar():
                 assert is_date(year, month, day)
                 assert ordinal - 1 == number
                 assert writing.day_number(year, month, day) == number
-                assert reading.date_of_day_number(number) == (year, month, day)
+                date = year, month, day
+                assert reading.date_of_day_number(number) == date
+                assert instants.day_number(year, month, day) == number
+                assert instants.date_of_day_number(number) == date
+                assert instants.day_after(*before) == date
+                assert instants.day_before(year, month, day) == before
+                before = date
                 number += 1
     assert number - 1 == LAST_DAY_NUMBER == 3_652_058
     assert writing.day_number(2020, 1, 1) == DAY_NUMBER_OF_2020
@@ -51,6 +64,9 @@ def test_constants():
     assert LAST_T_WITH_OFFSET == (
         (LAST_DAY_NUMBER - DAY_NUMBER_OF_2020 + 1) * MILLIS_OF_DAY - 1)
     assert LAST_DAY_NUMBER - DAY_NUMBER_OF_2020 == 2_914_634
+    assert FIRST_INSTANT == -LAST_OFFSET * 60_000_000
+    assert LAST_INSTANT == (
+        (LAST_DAY_NUMBER + 1) * MICROS_OF_DAY + LAST_OFFSET * 60_000_000)
 
 
 def test_integers():
@@ -70,7 +86,7 @@ def test_integers():
 
 def test_examples():
     """The fifteen bench lines, "Run, not proved", docs/DECISIONS.md, and
-    request 1 of 02."""
+    requests 1 and 2 of 02."""
     output = ""
     for letter, call in examples.BENCH:
         number, octets = write(*call)
@@ -80,6 +96,8 @@ def test_examples():
         assert write(*call) == (number, bytes.fromhex(octets)), call
     for kind, octets, answer in examples.READING + examples.REQUEST_1:
         assert read(kind, octets) == answer, (kind, octets, read(kind, octets))
+    for letter, numbers, answer in examples.REQUEST_2:
+        assert CALLS[letter](*numbers) == answer, (letter, numbers)
 
 
 def value_kept(kind, form, year, month, day, micros, offset, digits):
@@ -157,8 +175,65 @@ def test_both_ways():
         check_read(*case)
 
 
+def check_call(letter, *numbers):
+    answer = CALLS[letter](*numbers)
+    assert answer == BY_DATETIME[letter](*numbers), (letter, numbers, answer)
+
+
+def check_stamp(stamp, to):
+    """Its instant gives the stamp back, but for 24:00; restating goes where
+    the instant does and keeps it."""
+    answer = instants.instant(*stamp)
+    if answer == 2:
+        assert restate(*stamp, to) == 2
+        return
+    _, instant = answer
+    own = at(instant, stamp[4])
+    if stamp[3] < MICROS_OF_DAY:
+        assert own == (0, *stamp), stamp
+    assert restate(*stamp, stamp[4]) == own, stamp
+    restated = restate(*stamp, to)
+    assert restated == at(instant, to), (stamp, to)
+    if isinstance(restated, tuple):
+        assert instants.instant(*restated[1:]) == (0, instant), (stamp, to)
+        assert restated[4] < MICROS_OF_DAY
+
+
+def check_two(a, b):
+    """02, request 2: adding zero, and the difference of a and b. The one added
+    to b gives a."""
+    answer = difference(a, b)
+    if answer == 2:
+        assert difference(b, a) == 2
+        return
+    _, apart = answer
+    assert difference(b, a) == (0, -apart), (a, b)
+    assert add(b, apart) == (0, a) and add(a, 0) == (0, a), (a, b)
+
+
+def test_instants():
+    """All cases and more by chance against datetime; the laws by chance and at
+    the limits of the cases."""
+    for case in instant_cases():
+        check_call(*case)
+        if case[0] == "S":
+            check_stamp(case[1:6], case[6])
+        if case[0] == "D":
+            check_two(*case[1:])
+    chance = Chance(11)
+    for _ in range(30_000):
+        stamp, to = some_stamp(chance), some_offset(chance)
+        a, b = some_instant(chance), some_instant(chance)
+        check_call("I", *stamp)
+        check_call("S", *stamp, to)
+        check_call("T", a, to)
+        check_call("A", a, some_number(chance))
+        check_stamp(stamp, to)
+        check_two(a, b)
+
+
 def run():
     for test in (test_constants, test_integers, test_examples, test_calendar,
-                 test_both_ways):
+                 test_both_ways, test_instants):
         test()
         print("%-16s good" % test.__name__)

@@ -1,5 +1,6 @@
 #!/usr/bin/env python3
-"""Writes and reads the contents octets of date-and-time stamps.
+"""Writes and reads the contents octets of date-and-time stamps, and reckons with
+their UTC instants.
 
 Kinds:  0 Date, 1 DateTz, 2 Time, 3 TimeTz, 4 Datetime, 5 DatetimeTz;
         for reading also 6, 7, 8: Date, Time, Datetime, each "or its Tz".
@@ -12,14 +13,20 @@ Forms:  0 text, 1 compact, 2 extended.
     read(kind, octets)
         -> refusal 5 to 8, or
            (kind, form, digits, year, month, day, micros, offset)
+    instant(year, month, day, micros, offset)   -> refusal 2, or (0, instant)
+    add(instant, micros)                        -> refusal 2, 9, or (0, sum)
+    difference(a, b)                            -> refusal 2, or (0, a less b)
+    at(instant, offset), restate(year, month, day, micros, offset, to)
+        -> refusal 2, 9, or (0, year, month, day, micros, offset)
 
-Writing and reading are separate procedures in files of their own. They share
-only the numbers of document 01, the leap rule and the lengths of the months.
+Writing, reading and instants are separate procedures in files of their own. They
+share only the numbers of document 01, the leap rule and the lengths of the months.
 """
 
 import sys
 
 from common import *
+from instants import add, at, difference, instant, restate
 from reading import read
 from writing import write, write_into
 

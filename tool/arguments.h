@@ -4,14 +4,21 @@
 
 #include "stamp.h"
 
-typedef enum command { COMMAND_READ, COMMAND_WRITE, COMMAND_EXPLAIN, COMMAND_HELP, COMMAND_RELEASE } command;
+typedef enum command {
+    COMMAND_READ, COMMAND_WRITE, COMMAND_EXPLAIN,
+    COMMAND_INSTANT, COMMAND_RESTATE, COMMAND_DIFFERENCE, COMMAND_ADD,
+    COMMAND_HELP, COMMAND_RELEASE
+} command;
 
 typedef struct request {
     command asked;
     uint32_t kind;              /* of read and write */
     stamp_settings settings;    /* of write */
+    bool has_to;                /* of restate: it is told the offset .. */
+    int32_t to;                 /* .. in minutes ahead of UTC */
+    int64_t micros;             /* of add */
     bool json;
-    bool raw;                   /* octets as they are: of read and explain on standard input, of write on standard output */
+    bool raw;                   /* octets as they are: of write on standard output, of the others on standard input */
     char **records;             /* at least one; each a record, or standard_input */
     size_t count;
 } request;

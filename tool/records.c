@@ -42,12 +42,17 @@ static int hex_digit(int octet)
     return NO_DIGIT;
 }
 
+static bool is_blank(int octet)
+{
+    return octet == ' ' || octet == '\t';
+}
+
 /* `high` is the first digit of an octet whose second is still to come, or NO_DIGIT. False where it is not hex. */
 static bool take_hex(record *into, int *high, int octet)
 {
     int digit = hex_digit(octet);
     if (digit == NO_DIGIT)
-        return *high == NO_DIGIT && (octet == ' ' || octet == '\t');
+        return *high == NO_DIGIT && is_blank(octet);
     if (*high == NO_DIGIT) {
         *high = digit;
     } else {
@@ -95,21 +100,36 @@ static int next_of_argument(const char **word)
     return **word == '\0' ? RECORD_END : (unsigned char)*(*word)++;
 }
 
+/* What passed for hex so far is text, from its start: the octets are those given, of which more is kept than there is
+ * room for octets. */
+static void turn_to_text(record *into)
+{
+    size_t at;
+    into->as = NOTATION_TEXT;
+    into->fault = 0;
+    into->length = 0;
+    for (at = 0; at < into->given_length; at++)
+        append(into, (uint8_t)into->given[at]);
+}
+
 /* Takes the argument, or the line where that is null, to its end, also behind a fault, so that the next record starts where it should.
  * False where standard input failed. */
 static bool take(notation as, const char *word, record *into)
 {
     uint64_t column = 1;
     int high = NO_DIGIT, octet;
+    into->as = as == NOTATION_EITHER ? NOTATION_HEX : as;
     while ((octet = word != NULL ? next_of_argument(&word) : next_of_line()) >= 0) {
         append_given(into, octet);
-        if (as == NOTATION_TEXT)
+        if (into->as == NOTATION_TEXT)
             append(into, (uint8_t)octet);
+        else if (as == NOTATION_EITHER && hex_digit(octet) == NO_DIGIT && !is_blank(octet))
+            turn_to_text(into);
         else if (into->fault == 0 && !take_hex(into, &high, octet))
             into->fault = column;
         column++;
     }
-    if (into->fault == 0 && high != NO_DIGIT)
+    if (into->as == NOTATION_HEX && into->fault == 0 && high != NO_DIGIT)
         into->fault = column;
     return octet != INPUT_FAILED;
 }
@@ -118,6 +138,7 @@ static bool take(notation as, const char *word, record *into)
 static bool take_raw(record *into)
 {
     int octet = 0;
+    into->as = NOTATION_RAW;
     while (into->length < RECORD_ROOM && (octet = next_of_input()) >= 0)
         append(into, (uint8_t)octet);
     return octet != INPUT_FAILED;
@@ -184,4 +205,13 @@ outcome next_record(source *from, record *into)
             return found;
     }
     return RECORD_NONE;
+}
+
+/* What is shorter than any text of the kind could pass for a binary stamp; all that is accepted from that length on is
+ * text. */
+uint32_t read_record(uint32_t kind, const record *of, stamp_decoded *found)
+{
+    if (of->as == NOTATION_TEXT && of->length < stamp_text_length(kind, 0))
+        return STAMP_REFUSED_LENGTH;
+    return stamp_decode(kind, of->octets, of->length, found);
 }

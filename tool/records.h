@@ -11,9 +11,18 @@
 /* So much is kept of a record as it was given, to be shown where it is refused; one octet more stands for all that is longer. */
 #define LONGEST_SHOWN 72
 
+/* How octets are given. */
+typedef enum notation {
+    NOTATION_HEX,                       /* two hex digits an octet, blanks between octets; a record a line */
+    NOTATION_TEXT,                      /* as they are; a record a line */
+    NOTATION_EITHER,                    /* hex if all are hex digits and blanks, otherwise text; a record a line */
+    NOTATION_RAW                        /* as they are; all of standard input is one record */
+} notation;
+
 typedef struct record {
     uint8_t octets[RECORD_ROOM];
     size_t length;
+    notation as;                        /* what it turned out to be; never NOTATION_EITHER */
     char given[LONGEST_SHOWN + 1];      /* the argument or line itself, without its end */
     size_t given_length;
     uint64_t number;                    /* counted from one */
@@ -21,13 +30,6 @@ typedef struct record {
     uint64_t line;                      /* .. the line of standard input; the other one is 0, and both are for raw octets */
     uint64_t fault;                     /* the column, counted from one, where it stops being hex; 0 for nowhere */
 } record;
-
-/* How octets are given. */
-typedef enum notation {
-    NOTATION_HEX,                       /* two hex digits an octet, blanks between octets; a record a line */
-    NOTATION_TEXT,                      /* as they are; a record a line */
-    NOTATION_RAW                        /* as they are; all of standard input is one record */
-} notation;
 
 /* The argument that stands for standard input: this very pointer, as another `-` may be a record. */
 extern char standard_input[];
@@ -49,5 +51,9 @@ source source_of(char **arguments, size_t count, notation as);
 typedef enum outcome { RECORD_TAKEN, RECORD_NONE, RECORD_FAILED } outcome;
 
 outcome next_record(source *from, record *into);
+
+/* Reads the record as a stamp of the kind; if it is text, as text alone. Answers the refusal, and then *found stays as
+ * lent. */
+uint32_t read_record(uint32_t kind, const record *of, stamp_decoded *found);
 
 #endif

@@ -10,6 +10,7 @@ typedef struct report {
     FILE *to;
     bool json;
     bool several;           /* there may be more than one argument: say which one is refused */
+    bool pairs;             /* each answer is about two records, A and B: say which one is refused */
 } report;
 
 /* What an answer is about, beside the record. */
@@ -26,10 +27,10 @@ void report_heading(const report *how, const record *of);
 void report_stamp(const report *how, const record *of, const stamp_decoded *found,
                   const uint8_t *octets, size_t length, about more);
 
-/* A refusal, and what was refused. */
-void report_refusal(const report *how, const record *of, uint32_t refusal, about more);
+/* A refusal, by a reader of explain or (null) the only one, and what was refused. Answers the status. */
+int report_refusal(const report *how, const record *of, uint32_t refusal, const char *reader);
 
-/* A record that is not hex. */
-void report_fault(const report *how, const record *of);
+/* A record that is not hex. Answers the status. */
+int report_fault(const report *how, const record *of);
 
 #endif

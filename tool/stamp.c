@@ -1,8 +1,9 @@
-/* stamp - reads, writes and explains date-and-time stamps at a prompt. docs/stamp.1 describes it.
+/* stamp - reads, writes and explains date-and-time stamps at a prompt, and compares them. docs/stamp.1 describes it.
  * The library does the work; here are arguments, hex and printing. */
 #include <stdio.h>
 
 #include "arguments.h"
+#include "instants.h"
 #include "output.h"
 #include "records.h"
 #include "report.h"
@@ -14,22 +15,11 @@ static const about of_a_value = {NULL, true, true};
 static int answer_read(const request *what, const report *how, const record *of)
 {
     stamp_decoded found;
-    uint32_t refusal = stamp_decode(what->kind, of->octets, of->length, &found);
-    if (refusal != STAMP_ACCEPTED) {
-        report_refusal(how, of, refusal, of_a_stamp);
-        return EXIT_REFUSED;
-    }
+    uint32_t refusal = read_record(what->kind, of, &found);
+    if (refusal != STAMP_ACCEPTED)
+        return report_refusal(how, of, refusal, NULL);
     report_stamp(how, of, &found, of->octets, of->length, of_a_stamp);
     return EXIT_ACCEPTED;
-}
-
-/* Reads the text form alone. What is shorter than any text of the kind could pass for a binary stamp; all that is accepted
- * from that length on is text. */
-static uint32_t read_text(uint32_t kind, const record *of, stamp_decoded *found)
-{
-    if (of->length < stamp_text_length(kind, 0))
-        return STAMP_REFUSED_LENGTH;
-    return stamp_decode(kind, of->octets, of->length, found);
 }
 
 static bool same_value(const stamp_value *left, const stamp_value *right)
@@ -47,7 +37,7 @@ typedef struct written {
 
 static uint32_t write_stamp(const request *what, const record *of, written *into)
 {
-    uint32_t refusal = read_text(what->kind, of, &into->given);
+    uint32_t refusal = read_record(what->kind, of, &into->given);
     if (refusal == STAMP_ACCEPTED)
         refusal = stamp_encode(&into->given.value, what->settings, into->octets, sizeof into->octets, &into->length);
     if (refusal == STAMP_ACCEPTED)
@@ -60,10 +50,8 @@ static int answer_write(const request *what, const report *how, const record *of
     written made;
     about more = of_a_value;
     uint32_t refusal = write_stamp(what, of, &made);
-    if (refusal != STAMP_ACCEPTED) {
-        report_refusal(how, of, refusal, of_a_value);
-        return EXIT_REFUSED;
-    }
+    if (refusal != STAMP_ACCEPTED)
+        return report_refusal(how, of, refusal, NULL);
     more.exact = same_value(&made.given.value, &made.kept.value);
     if (what->raw)
         fwrite(made.octets, 1, made.length, stdout);
@@ -87,18 +75,19 @@ static int answer_explain(const report *how, const record *of)
             report_stamp(how, of, &found, of->octets, of->length, more);
             status = EXIT_ACCEPTED;
         } else {
-            report_refusal(how, of, refusal, more);
+            report_refusal(how, of, refusal, more.reader);
         }
     }
     return status;
 }
 
+/* Answers one record, or for difference two. */
 static int answer(const request *what, const report *how, const record *of)
 {
-    if (of->fault != 0) {
-        report_fault(how, of);
-        return EXIT_TROUBLE;
-    }
+    if (is_of_instants(what->asked))
+        return answer_instants(what, how, of);
+    if (of->fault != 0)
+        return report_fault(how, of);
     if (what->asked == COMMAND_READ)
         return answer_read(what, how, of);
     if (what->asked == COMMAND_WRITE)
@@ -110,7 +99,9 @@ static notation notation_of(const request *what)
 {
     if (what->asked == COMMAND_WRITE)
         return NOTATION_TEXT;
-    return what->raw ? NOTATION_RAW : NOTATION_HEX;
+    if (what->raw)
+        return NOTATION_RAW;
+    return is_of_instants(what->asked) ? NOTATION_EITHER : NOTATION_HEX;
 }
 
 static int none_given(void)
@@ -119,28 +110,43 @@ static int none_given(void)
     return EXIT_TROUBLE;
 }
 
-/* Answers all records. The status is the gravest of theirs; that there was none is never 'accepted'. */
+static int one_alone(void)
+{
+    say_usage("difference takes stamps in pairs, and the last has no second", NULL);
+    return EXIT_TROUBLE;
+}
+
+/* The records of one answer. Of a pair that is not whole there is nothing to answer. */
+static outcome next_records(source *from, bool pairs, record of[2])
+{
+    outcome found = next_record(from, &of[0]);
+    return pairs && found == RECORD_TAKEN ? next_record(from, &of[1]) : found;
+}
+
+/* Answers all records. The status is the gravest of theirs; none at all, or half a pair, is never 'accepted'. */
 static int answer_all(const request *what, source *from)
 {
-    report how = {stdout, what->json, what->count > 1};
-    record of;
+    report how = {stdout, what->json, what->count > 1, what->asked == COMMAND_DIFFERENCE};
+    record of[2];
     outcome found;
     int status = EXIT_ACCEPTED, one;
-    while ((found = next_record(from, &of)) == RECORD_TAKEN) {
-        one = answer(what, &how, &of);
+    while ((found = next_records(from, how.pairs, of)) == RECORD_TAKEN) {
+        one = answer(what, &how, of);
         output_record();
         if (one > status)
             status = one;
     }
     if (found == RECORD_FAILED)
         return EXIT_TROUBLE;
+    if (how.pairs && from->taken % 2 != 0)
+        return one_alone();
     return from->taken == 0 ? none_given() : status;
 }
 
 /* Writes the octets of one stamp and nothing else: what is refused is said on standard error, and of two values neither is written. */
 static int answer_raw(const request *what, source *from)
 {
-    report how = {stderr, false, false};
+    report how = {stderr, false, false, false};
     record of, other;
     outcome found = next_record(from, &of);
     if (found == RECORD_NONE)

@@ -16,6 +16,7 @@ ONE = {
                       "→ P lent r′ count′ left′ → (r ≡ r′) × (count ≡ count′) × (left ≡ left′)",
     "OneReadingForC": "(lent : List ℤ) (r r′ : ℕ) (left left′ : List ℤ) → P lent r left → P lent r′ left′ "
                       "→ (r ≡ r′) × (left ≡ left′)",
+    "OneNumberForC": "(lent : ℤ) (r r′ : ℕ) (left left′ : ℤ) → P lent r left → P lent r′ left′ → (r ≡ r′) × (left ≡ left′)",
 }
 # `(y m d : ℕ) → OneAnswer (DateNew y m d)`, or `OneAnswer TimeEndOfDay` of what is given nothing
 ONE_ANSWER = re.compile(r"(?:((?:\([^()]*\) )+)→ )?(?:%s) (?:\((\S+) ([^()]*)\)|([^\s()]+))" % "|".join(ONE))

@@ -1,5 +1,5 @@
-/* Tries what include/stamp.h adds to the two calls: constants, structs, words. Compiled as C99 and as C++17, linked with
- * the library. Last line: 'N passed, M failed'. */
+/* Tries what include/stamp.h adds to the calls: constants, structs, words; and of the calls on instants what the header
+ * promises. Compiled as C99 and as C++17, linked with the library. Last line: 'N passed, M failed'. */
 #include <stdio.h>
 #include <string.h>
 
@@ -20,7 +20,7 @@ static void try_that(bool holds, const char *what)
 static void try_sentences(void)
 {
     uint32_t number, other;
-    try_that(STAMP_REFUSED_DIGITS == 1 && STAMP_REFUSED_RANGE == STAMP_LAST_REFUSAL, "refusals are 1 to 8");
+    try_that(STAMP_REFUSED_DIGITS == 1 && STAMP_REFUSED_RESULT == STAMP_LAST_REFUSAL, "refusals are 1 to 9");
     for (number = 1; number <= STAMP_LAST_REFUSAL; number++) {
         const char *sentence = stamp_refusal_sentence(number);
         try_that(strlen(sentence) > 10, "each refusal has a sentence");
@@ -30,7 +30,9 @@ static void try_sentences(void)
         for (other = 0; other < number; other++)
             try_that(strcmp(sentence, stamp_refusal_sentence(other)) != 0, "no two refusals have one sentence");
     }
-    try_that(strcmp(stamp_refusal_sentence(9), "no such refusal") == 0, "9 is no refusal");
+    try_that(strcmp(stamp_refusal_sentence(9), "the result can't be given: no stamp has such an instant, "
+             "or the local reading is outside the years 1 to 9999") == 0, "the sentence of 9");
+    try_that(strcmp(stamp_refusal_sentence(10), "no such refusal") == 0, "10 is no refusal");
     try_that(strcmp(stamp_refusal_sentence(UINT32_MAX), "no such refusal") == 0, "nor is the largest number");
     try_that(strcmp(stamp_kind_name(5), "DatetimeTz") == 0 && *stamp_kind_name(6) == '\0', "names of kinds");
     try_that(strcmp(stamp_form_name(2), "extended") == 0 && *stamp_form_name(3) == '\0', "names of forms");
@@ -120,12 +122,173 @@ static void try_micros(void)
              "fields that make no time give no time");
 }
 
+/* ---- Instants ---- */
+
+/* What is lent, to be found again after a refusal: no call answers such a number, nor such a value. */
+static const int64_t lent_number = INT64_C(0x5A5A5A5A5A5A5A5A);
+
+static stamp_value lent_value(void)
+{
+    stamp_value lent;
+    memset(&lent, 0x5A, sizeof lent);
+    return lent;
+}
+
+/* By its parts and by its name. */
+static void try_instant(stamp_value value, uint32_t refusal, int64_t expected, const char *what)
+{
+    int64_t by_parts = lent_number, by_name = lent_number;
+    if (refusal != STAMP_ACCEPTED)
+        expected = lent_number;
+    try_that(stamp_instant(value.year, value.month, value.day, value.micros, value.offset, &by_parts) == refusal
+             && by_parts == expected, what);
+    try_that(stamp_instant_of(&value, &by_name) == refusal && by_name == expected, what);
+}
+
+static void try_instants(void)
+{
+    const uint64_t last = STAMP_END_OF_DAY - 1;
+    uint32_t kind;
+    try_instant(stamp_datetimetz(1, 1, 1, 0, STAMP_MAX_OFFSET), 0, STAMP_MIN_INSTANT, "the first instant");
+    try_instant(stamp_datetimetz(9999, 12, 31, STAMP_END_OF_DAY, -STAMP_MAX_OFFSET), 0, STAMP_MAX_INSTANT, "the last");
+    try_instant(stamp_datetimetz(1970, 1, 1, 0, 0), 0, STAMP_UNIX_EPOCH, "what Unix time counts from");
+    try_instant(stamp_datetimetz(1, 1, 1, 0, 0), 0, 0, "what instants count from");
+    try_instant(stamp_datetimetz(1, 1, 1, stamp_micros(0, 0, 59, 999999), 1), 0, -1, "a microsecond before it");
+    try_instant(stamp_datetimetz(2020, 2, 29, last, -270), 0, INT64_C(63718633799999999), "an offset is taken away");
+    try_instant(stamp_datetimetz(2020, 2, 29, STAMP_END_OF_DAY, -270), 0, INT64_C(63718633800000000), "24:00");
+    try_instant(stamp_datetimetz(2020, 3, 1, 0, -270), 0, INT64_C(63718633800000000), "24:00 is the next day's start");
+    try_instant(stamp_datetimetz(0, 1, 1, 0, 0), 2, 0, "no year 0");
+    try_instant(stamp_datetimetz(10000, 1, 1, 0, 0), 2, 0, "no year 10000");
+    try_instant(stamp_datetimetz(2021, 2, 29, 0, 0), 2, 0, "no such day");
+    try_instant(stamp_datetimetz(2020, 1, 1, STAMP_END_OF_DAY + 1, 0), 2, 0, "no such time");
+    try_instant(stamp_datetimetz(2020, 1, 1, 0, STAMP_MAX_OFFSET + 1), 2, 0, "no such offset ahead");
+    try_instant(stamp_datetimetz(2020, 1, 1, 0, -STAMP_MAX_OFFSET - 1), 2, 0, "no such offset behind");
+    try_instant(stamp_datetimetz(UINT32_MAX, UINT32_MAX, UINT32_MAX, UINT64_MAX, INT32_MIN), 2, 0, "any numbers");
+    for (kind = 0; kind < STAMP_DATETIMETZ; kind++) {
+        stamp_value other = value_of(kind, 0, 0);
+        int64_t instant = lent_number;
+        try_that(stamp_instant_of(&other, &instant) == 2 && instant == lent_number, "other kinds have no instant");
+    }
+}
+
+static void try_sum(int64_t instant, int64_t micros, uint32_t refusal, int64_t expected, const char *what)
+{
+    int64_t sum = lent_number;
+    try_that(stamp_add(instant, micros, &sum) == refusal && sum == (refusal == 0 ? expected : lent_number), what);
+}
+
+static void try_difference(int64_t a, int64_t b, uint32_t refusal, int64_t expected, const char *what)
+{
+    int64_t found = lent_number;
+    try_that(stamp_difference(a, b, &found) == refusal && found == (refusal == 0 ? expected : lent_number), what);
+}
+
+static void try_sums(void)
+{
+    const int64_t least = STAMP_MIN_INSTANT, greatest = STAMP_MAX_INSTANT, span = STAMP_MAX_INSTANT - STAMP_MIN_INSTANT;
+    try_sum(STAMP_UNIX_EPOCH, INT64_C(1577836800000000), 0, INT64_C(63713433600000000), "2020 by its Unix time");
+    try_sum(least, 0, 0, least, "nothing added to the least");
+    try_sum(greatest, 0, 0, greatest, "nothing added to the greatest");
+    try_sum(least, span, 0, greatest, "from end to end");
+    try_sum(greatest, -span, 0, least, "and back");
+    try_sum(least, -1, 9, 0, "before the least");
+    try_sum(greatest, 1, 9, 0, "past the greatest");
+    try_sum(greatest, INT64_MAX, 9, 0, "a sum that overflows");
+    try_sum(least, INT64_MIN, 9, 0, "a sum that overflows downwards");
+    try_sum(least - 1, 1, 2, 0, "no stamp has the instant that is added to, though one has the sum");
+    try_sum(greatest + 1, -1, 2, 0, "nor this one");
+    try_sum(INT64_MAX, INT64_MAX, 2, 0, "2 before 9");
+    try_sum(INT64_MIN, INT64_MIN, 2, 0, "2 before 9 downwards");
+    try_difference(greatest, least, 0, span, "the greatest difference");
+    try_difference(least, greatest, 0, -span, "the other way round it is below 0");
+    try_difference(STAMP_UNIX_EPOCH, STAMP_UNIX_EPOCH, 0, 0, "no difference");
+    try_difference(least - 1, 0, 2, 0, "no stamp has the first instant");
+    try_difference(0, greatest + 1, 2, 0, "no stamp has the second");
+    try_difference(INT64_MIN, INT64_MAX, 2, 0, "nor these");
+}
+
+/* The stamp that was answered, by its parts and by its name; after a refusal both stay as lent. */
+static void try_stamp(uint32_t refusal, const int64_t parts[5], const stamp_value *found, const stamp_value *expected,
+                      const char *what)
+{
+    stamp_value by_parts = stamp_value_of_parts(parts), lent = lent_value();
+    size_t at;
+    if (refusal == STAMP_ACCEPTED) {
+        try_that(same_value(&by_parts, expected) && same_value(found, expected), what);
+        return;
+    }
+    try_that(same_value(found, &lent), what);
+    for (at = 0; at < 5; at++)
+        try_that(parts[at] == lent_number, what);
+}
+
+static void try_at(int64_t instant, int32_t offset, uint32_t refusal, stamp_value expected, const char *what)
+{
+    int64_t parts[5] = {lent_number, lent_number, lent_number, lent_number, lent_number};
+    stamp_value found = lent_value();
+    try_that(stamp_at(instant, offset, parts) == refusal, what);
+    try_that(stamp_value_at(instant, offset, &found) == refusal, what);
+    try_stamp(refusal, parts, &found, &expected, what);
+}
+
+static void try_ats(void)
+{
+    const stamp_value none = lent_value();
+    try_at(STAMP_UNIX_EPOCH, 0, 0, stamp_datetimetz(1970, 1, 1, 0, 0), "the epoch at UTC");
+    try_at(STAMP_UNIX_EPOCH, -270, 0, stamp_datetimetz(1969, 12, 31, stamp_micros(19, 30, 0, 0), -270), "behind UTC");
+    try_at(STAMP_MIN_INSTANT, STAMP_MAX_OFFSET, 0, stamp_datetimetz(1, 1, 1, 0, STAMP_MAX_OFFSET), "the least");
+    try_at(STAMP_MAX_INSTANT - 1, -STAMP_MAX_OFFSET, 0,
+           stamp_datetimetz(9999, 12, 31, STAMP_END_OF_DAY - 1, -STAMP_MAX_OFFSET), "the greatest but one");
+    try_at(STAMP_MAX_INSTANT, -STAMP_MAX_OFFSET, 9, none, "never at 24:00");
+    try_at(-1, 0, 9, none, "before year 1");
+    try_at(STAMP_MIN_INSTANT, STAMP_MAX_OFFSET - 1, 9, none, "before year 1, ahead of UTC");
+    try_at(STAMP_MIN_INSTANT - 1, STAMP_MAX_OFFSET, 2, none, "no such instant");
+    try_at(STAMP_MAX_INSTANT + 1, 0, 2, none, "nor such");
+    try_at(0, STAMP_MAX_OFFSET + 1, 2, none, "no such offset");
+    try_at(-1, INT32_MIN, 2, none, "2 before 9");
+    try_at(INT64_MIN, INT32_MAX, 2, none, "any numbers");
+}
+
+/* By its parts, by its name, and into the very value that is restated. */
+static void try_restated(stamp_value value, int32_t to, uint32_t refusal, stamp_value expected, const char *what)
+{
+    int64_t parts[5] = {lent_number, lent_number, lent_number, lent_number, lent_number};
+    stamp_value found = lent_value(), own = value;
+    try_that(stamp_restate(value.year, value.month, value.day, value.micros, value.offset, to, parts) == refusal, what);
+    try_that(stamp_restate_value(&value, to, &found) == refusal, what);
+    try_that(stamp_restate_value(&own, to, &own) == refusal, what);
+    try_stamp(refusal, parts, &found, &expected, what);
+    try_that(same_value(&own, refusal == STAMP_ACCEPTED ? &expected : &value), what);
+}
+
+static void try_restating(void)
+{
+    const stamp_value none = lent_value();
+    const stamp_value noon = stamp_datetimetz(2020, 2, 29, stamp_micros(12, 0, 0, 5), -270);
+    const stamp_value end = stamp_datetimetz(2020, 2, 29, STAMP_END_OF_DAY, 60), date = stamp_date(2020, 2, 29);
+    stamp_value found = lent_value();
+    try_restated(noon, 270, 0, stamp_datetimetz(2020, 2, 29, stamp_micros(21, 0, 0, 5), 270), "nine hours on");
+    try_restated(noon, -270, 0, noon, "at its own offset it is the same");
+    try_restated(end, 60, 0, stamp_datetimetz(2020, 3, 1, 0, 60), "but never at 24:00");
+    try_restated(end, -60, 0, stamp_datetimetz(2020, 2, 29, stamp_micros(22, 0, 0, 0), -60), "24:00 behind UTC");
+    try_restated(stamp_datetimetz(1, 1, 1, 0, 0), -1, 9, none, "before year 1");
+    try_restated(stamp_datetimetz(9999, 12, 31, STAMP_END_OF_DAY, 0), 0, 9, none, "after year 9999");
+    try_restated(noon, STAMP_MAX_OFFSET + 1, 2, none, "no such offset");
+    try_restated(stamp_datetimetz(2021, 2, 29, 0, 0), 0, 2, none, "no such day");
+    try_restated(stamp_datetimetz(1, 1, 1, STAMP_END_OF_DAY + 1, 0), -1, 2, none, "2 before 9");
+    try_that(stamp_restate_value(&date, 0, &found) == 2 && same_value(&found, &none), "a Date has no instant");
+}
+
 int main(void)
 {
     try_sentences();
     try_rounds();
     try_refused();
     try_micros();
+    try_instants();
+    try_sums();
+    try_ats();
+    try_restating();
     printf("%u passed, %u failed\n", passed, failed);
     return failed == 0 ? 0 : 1;
 }

@@ -28,11 +28,11 @@ from transcripts import HERE, MANUAL, cases_in, lines_of, manual_cases, plain, r
 
 
 def refusals_agree(folder):
-    """There is a sentence for each number 1 to 8, none twice, and the man page has the same."""
+    """There is a sentence for each number 1 to 9, none twice, and the man page has the same."""
     help_lines, _ = run("stamp -h", folder)
     told = re.findall(r"^  (\d) (.+)$", "\n".join(help_lines), re.M)
     manual = re.findall(r"^\.TP\n\.B (\d)\n([a-z].+)$", "\n".join(map(plain, lines_of(MANUAL))), re.M)
-    good = [number for number, _ in told] == list("12345678") and len({words for _, words in told}) == 8
+    good = [number for number, _ in told] == list("123456789") and len({words for _, words in told}) == 9
     if good and told == manual:
         return True
     print("FAILED refusals: the tool has\n%s\nand the man page\n%s" % (told, manual))

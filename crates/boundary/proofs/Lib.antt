@@ -1,3 +1,4 @@
 pub mod Numbered
 pub mod Parts
+pub mod InDay
 pub mod OneAnswer

@@ -34,22 +34,27 @@ unsigned-kept n h = toZ-ofZ {w = w64} (record { sfits = h })
 signed-kept : (x : ℤ) → SFits w32 x → toZ w64 (ofZ w64 (toZ w32 (ofZ w32 x))) ≡ x
 signed-kept x f = rw (toZ-ofZ f) (toZ-ofZ (sfits-widen tt f))
 
-pub eight-kept : (kind form digits year month day micros : ℕ) (offset : ℤ)
-    → kind < 2 ^ 32 → form < 2 ^ 32 → digits < 2 ^ 32 → year < 2 ^ 32 → month < 2 ^ 32 → day < 2 ^ 32 → micros ≤ endOfDay → SFits w32 offset
+pub five-kept : (year month day micros : ℕ) (offset : ℤ)
+    → year < 2 ^ 32 → month < 2 ^ 32 → day < 2 ^ 32 → micros ≤ endOfDay → SFits w32 offset
     → _≡_ {A = List ℤ}
-    (toZ w64 kind ∷ toZ w64 form ∷ toZ w64 digits ∷ toZ w64 year ∷ toZ w64 month ∷ toZ w64 day ∷ toZ w64 micros ∷ toZ w64 (ofZ w64 (toZ w32 (ofZ w32 offset))) ∷ [])
-    (pos kind ∷ pos form ∷ pos digits ∷ pos year ∷ pos month ∷ pos day ∷ pos micros ∷ offset ∷ [])
-eight-kept kind form digits year month day micros offset k f d y m a u o =
+    (toZ w64 year ∷ toZ w64 month ∷ toZ w64 day ∷ toZ w64 micros ∷ toZ w64 (ofZ w64 (toZ w32 (ofZ w32 offset))) ∷ [])
+    (pos year ∷ pos month ∷ pos day ∷ pos micros ∷ offset ∷ [])
+five-kept year month day micros offset y m a u o =
     rw (
-      unsigned-kept kind (omega arith),
-      unsigned-kept form (omega arith),
-      unsigned-kept digits (omega arith),
       unsigned-kept year (omega arith),
       unsigned-kept month (omega arith),
       unsigned-kept day (omega arith),
       unsigned-kept micros (omega arith),
       signed-kept offset o,
     )
+
+pub eight-kept : (kind form digits year month day micros : ℕ) (offset : ℤ)
+    → kind < 2 ^ 32 → form < 2 ^ 32 → digits < 2 ^ 32 → year < 2 ^ 32 → month < 2 ^ 32 → day < 2 ^ 32 → micros ≤ endOfDay → SFits w32 offset
+    → _≡_ {A = List ℤ}
+    (toZ w64 kind ∷ toZ w64 form ∷ toZ w64 digits ∷ toZ w64 year ∷ toZ w64 month ∷ toZ w64 day ∷ toZ w64 micros ∷ toZ w64 (ofZ w64 (toZ w32 (ofZ w32 offset))) ∷ [])
+    (pos kind ∷ pos form ∷ pos digits ∷ pos year ∷ pos month ∷ pos day ∷ pos micros ∷ offset ∷ [])
+eight-kept kind form digits year month day micros offset k f d y m a u o =
+    rw (unsigned-kept kind (omega arith), unsigned-kept form (omega arith), unsigned-kept digits (omega arith), five-kept year month day micros offset y m a u o)
 
 -- ---- microseconds
 

@@ -6,6 +6,7 @@ ghost use Rattle.values.specs.Promise.{Writes};
 ghost use Rattle.boundary.specs.Boundary.{kindNumbered, known, valueOf, writing, WritesNumbered, readingAs, readingOf, ReadsNumbered};
 
 mod handing;
+mod utc;
 
 use calendar::Date;
 use values::DateTz;

@@ -2,8 +2,9 @@
 use Rattle.calendar.proofs.OneAnswer as calendar
 use Rattle.values.proofs.OneAnswer as values
 use Rattle.stamp.proofs.OneAnswer as stamp
-use Rattle.boundary.proofs.OneAnswer.{one-stamp-write, one-stamp-read}
-use Rattle.claims.specs.OneAnswer.{CalendarAnswers, PartsAnswers, SettingsAnswers, WritersAnswers, ReadersAnswers, BoundaryAnswers}
+use Rattle.instants.proofs.OneAnswer as instants
+use Rattle.boundary.proofs.OneAnswer as boundary
+use Rattle.claims.specs.OneAnswer.{CalendarAnswers, PartsAnswers, SettingsAnswers, WritersAnswers, ReadersAnswers, InstantsAnswers, BoundaryAnswers}
 
 pub calendar-answers : CalendarAnswers
 calendar-answers = (calendar.one-new, calendar.one-in-range, calendar.one-day-number, calendar.one-date-of, calendar.one-year-start)
@@ -59,5 +60,25 @@ readers-answers = (
   stamp.one-datetime-kind,
 )
 
+pub instants-answers : InstantsAnswers
+instants-answers = (
+  instants.one-number,
+  instants.one-new,
+  instants.one-in-range,
+  instants.one-instant-of,
+  instants.one-add,
+  instants.one-difference,
+  instants.one-at,
+  instants.one-restate,
+)
+
 pub boundary-answers : BoundaryAnswers
-boundary-answers = (one-stamp-write, one-stamp-read)
+boundary-answers = (
+  boundary.one-stamp-write,
+  boundary.one-stamp-read,
+  boundary.one-stamp-instant,
+  boundary.one-stamp-add,
+  boundary.one-stamp-difference,
+  boundary.one-stamp-at,
+  boundary.one-stamp-restate,
+)

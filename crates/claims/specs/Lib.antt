@@ -4,5 +4,6 @@ pub mod ReaderRefusals
 pub mod PlainNumbers
 pub mod Calendar
 pub mod Examples
+pub mod Instants
 pub mod CodeClaims
 pub mod OneAnswer

@@ -1,6 +1,7 @@
 -- One answer: no two different answers meet the promise of a public call, whatever it is given. (01, What the promises have to say.)
--- Each promise has the name that the call's contract cites (`specs/Calls.antt` of `calendar`, `values` and `stamp`, `specs/Boundary.antt` of `boundary`); `OneAnswer P` says that no two
--- different answers meet P, and `OneWriting P` the same of a writer's answer and every octet of the buffer that it leaves; `OneWritingForC`, `OneReadingForC` of the two C functions.
+-- Each promise has the name that the call's contract cites (`specs/Calls.antt` of `calendar`, `values`, `stamp` and `instants`, `specs/Boundary.antt` and `specs/Utc.antt` of `boundary`); `OneAnswer P`
+-- says that no two different answers meet P, and `OneWriting P` the same of a writer's answer and every octet of the buffer that it leaves; `OneWritingForC`, `OneReadingForC`,
+-- `OneNumberForC` of the C functions.
 use Prim.Native.Nat.{ℕ}
 use mathlib.Core.Path.{_≡_}
 use mathlib.Core.Bool.{Bool}
@@ -23,8 +24,12 @@ use Rattle.values.specs.declared.settings.Settings.{Settings}
 use Rattle.values.specs.declared.answers.Written.{Written}
 use Rattle.values.specs.Calls as values
 use Rattle.stamp.specs.Calls as stamp
+use Rattle.instants.specs.declared.Instant.{Instant}
+use Rattle.instants.specs.declared.Refusal.{Refusal as InstantsRefusal}
+use Rattle.instants.specs.Calls as instants
 use Rattle.format.specs.Values as format
 use Rattle.boundary.specs.Boundary as boundary
+use Rattle.boundary.specs.Utc as utc
 
 abbrev pub OneWriting : (List ℕ → Written → List ℕ → Type 0) → Type 0
 OneWriting P = (lent : List ℕ) (r r′ : Written) (left left′ : List ℕ) → P lent r left → P lent r′ left′ → (r ≡ r′) × (left ≡ left′)
@@ -84,7 +89,18 @@ ReadersAnswers =
     × ((s : List ℕ) → OneAnswer (stamp.ChoosesTime s))
     × ((s : List ℕ) → OneAnswer (stamp.ChoosesDatetime s))
 
--- the C functions: the number, the count and every octet; the number and all eight parts
+abbrev pub InstantsAnswers : Type 0
+InstantsAnswers =
+    ((f : InstantsRefusal) → OneAnswer (instants.RefusalNumber f))
+    × ((m : ℤ) → OneAnswer (instants.InstantNew m))
+    × ((i : Instant) → OneAnswer (instants.InstantInRange i))
+    × ((v : DatetimeTz) → OneAnswer (instants.InstantOf v))
+    × ((i : Instant) (n : ℤ) → OneAnswer (instants.InstantAdd i n))
+    × ((a b : Instant) → OneAnswer (instants.InstantDifference a b))
+    × ((i : Instant) (o : Offset) → OneAnswer (instants.InstantAt i o))
+    × ((v : DatetimeTz) (o : Offset) → OneAnswer (instants.Restates v o))
+
+-- the C functions: the number, the count and every octet; the number and all parts; the number and the number handed over
 abbrev pub OneWritingForC : (List ℕ → ℕ → ℕ → List ℕ → Type 0) → Type 0
 OneWritingForC P =
     (lent : List ℕ) (r r′ count count′ : ℕ) (left left′ : List ℕ) → P lent r count left → P lent r′ count′ left′
@@ -93,7 +109,15 @@ OneWritingForC P =
 abbrev pub OneReadingForC : (List ℤ → ℕ → List ℤ → Type 0) → Type 0
 OneReadingForC P = (lent : List ℤ) (r r′ : ℕ) (left left′ : List ℤ) → P lent r left → P lent r′ left′ → (r ≡ r′) × (left ≡ left′)
 
+abbrev pub OneNumberForC : (ℤ → ℕ → ℤ → Type 0) → Type 0
+OneNumberForC P = (lent : ℤ) (r r′ : ℕ) (left left′ : ℤ) → P lent r left → P lent r′ left′ → (r ≡ r′) × (left ≡ left′)
+
 abbrev pub BoundaryAnswers : Type 0
 BoundaryAnswers =
     ((n : ℕ) (t : format.Settings) (v : format.Value) → OneWritingForC (boundary.WritesNumbered n t v))
     × ((n : ℕ) (s : List ℕ) → OneReadingForC (boundary.ReadsNumbered n s))
+    × ((v : format.Value) → OneNumberForC (utc.InstantForC v))
+    × ((i n : ℤ) → OneNumberForC (utc.AddForC i n))
+    × ((a b : ℤ) → OneNumberForC (utc.DifferenceForC a b))
+    × ((i o : ℤ) → OneReadingForC (utc.AtForC i o))
+    × ((v : format.Value) (o : ℤ) → OneReadingForC (utc.RestateForC v o))

@@ -1,11 +1,12 @@
-// How a case is answered, in one line.
+// How a case of writing or reading is answered, in one line.
 //   W    the refusal number (0 for none), the count (0 after a refusal), and the whole buffer afterwards in hex
 //   R    the refusal number alone, or `0 kind form digits year month day micros offset`: form 0 text, 1 compact, 2 extended;
 //        digits 0 but for text; a part that the kind lacks is 0
-//   else `?`
+// `utc` answers the other cases; a line that is none is answered `?`.
+use crate::fields;
+use crate::fields::Number;
 use crate::parse;
 use crate::parse::Asked;
-use crate::parse::Number;
 use crate::parse::Octets;
 use crate::parse::Writing;
 use calendar::Date;
@@ -20,10 +21,11 @@ use values::Reading;
 use values::Settings;
 use values::Time;
 use values::TimeTz;
-use values::Value;
 use values::Written;
 
-fn unknown(out: &mut [u8]) -> usize {
+// ---- parts of an answer, for `utc` too
+
+pub fn unknown(out: &mut [u8]) -> usize {
     line::octet(out, 0, b'?')
 }
 
@@ -32,9 +34,31 @@ fn field(out: &mut [u8], at: usize, n: u64) -> usize {
     line::number(out, from, n)
 }
 
+pub fn signed_field(out: &mut [u8], at: usize, n: i64) -> usize {
+    let from = line::octet(out, at, b' ');
+    line::signed(out, from, n)
+}
+
+fn put_date(out: &mut [u8], at: usize, date: Date) -> usize {
+    let after_year = field(out, at, date.year as u64);
+    let after_month = field(out, after_year, date.month as u64);
+    field(out, after_month, date.day as u64)
+}
+
+fn wide(n: i32) -> i64 {
+    n as i64
+}
+
+// The fields `year month day micros offset`.
+pub fn put_parts(out: &mut [u8], at: usize, date: Date, time: Time, offset: Offset) -> usize {
+    let after_date = put_date(out, at, date);
+    let after_time = field(out, after_date, time.micros);
+    signed_field(out, after_time, wide(offset.minutes))
+}
+
 // ---- writing
 
-fn write(kind: u64, value: Value, settings: Settings, buf: &mut [u8]) -> Written {
+fn write(kind: u64, value: DatetimeTz, settings: Settings, buf: &mut [u8]) -> Written {
     let date = value.date;
     let time = value.time;
     let offset = value.offset;
@@ -44,7 +68,7 @@ fn write(kind: u64, value: Value, settings: Settings, buf: &mut [u8]) -> Written
         2 => stamp::write_time(time, settings, buf),
         3 => stamp::write_time_tz(TimeTz { time, offset }, settings, buf),
         4 => stamp::write_datetime(Datetime { date, time }, settings, buf),
-        _ => stamp::write_datetime_tz(DatetimeTz { date, time, offset }, settings, buf),
+        _ => stamp::write_datetime_tz(value, settings, buf),
     }
 }
 
@@ -71,16 +95,14 @@ fn put_written(out: &mut [u8], written: Written, buf: &[u8]) -> usize {
 
 // `buf` is the whole room that the case lends.
 fn answer_in(out: &mut [u8], asked: Asked, buf: &mut [u8]) -> usize {
-    let date = asked.date;
-    let time = asked.time;
-    let offset = asked.offset;
+    let value = asked.value;
     let settings = asked.settings;
-    let written = write(asked.kind, Value { date, time, offset }, settings, buf);
+    let written = write(asked.kind, value, settings, buf);
     put_written(out, written, buf)
 }
 
 // `parse` lets no more room through: the test is for the proof.
-fn answer_writing(out: &mut [u8], case: &[u8]) -> usize {
+pub fn answer_writing(out: &mut [u8], case: &[u8]) -> usize {
     let Writing::Asked(asked) = parse::take_writing(case) else {
         return unknown(out);
     };
@@ -124,21 +146,6 @@ fn form_digits(form: Form) -> u64 {
     }
 }
 
-fn put_date(out: &mut [u8], at: usize, date: Date) -> usize {
-    let after_year = field(out, at, date.year as u64);
-    let after_month = field(out, after_year, date.month as u64);
-    field(out, after_month, date.day as u64)
-}
-
-fn wide(n: i32) -> i64 {
-    n as i64
-}
-
-fn put_minutes(out: &mut [u8], at: usize, minutes: i32) -> usize {
-    let from = line::octet(out, at, b' ');
-    line::signed(out, from, wide(minutes))
-}
-
 fn put_stamp(
     out: &mut [u8],
     kind: u64,
@@ -151,9 +158,7 @@ fn put_stamp(
     let after_kind = field(out, after_number, kind);
     let after_form = field(out, after_kind, form_number(form));
     let after_digits = field(out, after_form, form_digits(form));
-    let after_date = put_date(out, after_digits, date);
-    let after_time = field(out, after_date, time.micros);
-    put_minutes(out, after_time, offset.minutes)
+    put_parts(out, after_digits, date, time, offset)
 }
 
 fn put_decoded(out: &mut [u8], decoded: Decoded) -> usize {
@@ -219,8 +224,8 @@ fn answer_octets(out: &mut [u8], kind: u64, octets: &[u8], count: usize) -> usiz
     put_reading(out, reading)
 }
 
-fn answer_reading(out: &mut [u8], case: &[u8]) -> usize {
-    let Number::Read(kind, after_kind) = parse::take_number(case, 1, 8) else {
+pub fn answer_reading(out: &mut [u8], case: &[u8]) -> usize {
+    let Number::Read(kind, after_kind) = fields::take_number(case, 1, 8) else {
         return unknown(out);
     };
     let mut octets = [0u8; 64];
@@ -228,18 +233,4 @@ fn answer_reading(out: &mut [u8], case: &[u8]) -> usize {
         return unknown(out);
     };
     answer_octets(out, kind, &octets, count)
-}
-
-pub fn answer(out: &mut [u8], case: &[u8]) -> usize {
-    if case.len() == 0 {
-        return unknown(out);
-    }
-    let letter = case[0];
-    if letter == b'W' {
-        return answer_writing(out, case);
-    }
-    if letter == b'R' {
-        return answer_reading(out, case);
-    }
-    unknown(out)
 }

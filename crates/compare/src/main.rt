@@ -1,14 +1,16 @@
 // Answers a file of cases, for a comparison with another program: a case on each line of standard input, its answer on a line of
-// standard output. `parse` says how a case is written, `answers` how its answer is.
+// standard output. `parse` says how a case is written, `answers` and `utc` how its answer is.
 ghost use Prim.Native.Nat.{_≤_};
 ghost use lib.ListN.{length};
 use libc::STDIN_FILENO;
 
 mod answers;
+mod fields;
 mod parse;
+mod utc;
 
 // All cases are held at once, and one octet more.
-const MOST_OCTETS: usize = 2_097_152;
+const MOST_OCTETS: usize = 4_194_304;
 
 // An answer has some 110 octets at most: the hex of 48 octets, their count and the refusal number.
 const LINE: usize = 160;
@@ -28,9 +30,26 @@ fn line_end(cases: &[u8], from: usize) -> usize
     at
 }
 
+// The letter of a case says who answers it.
+fn answer(out: &mut [u8], case: &[u8]) -> usize {
+    if case.len() == 0 {
+        return answers::unknown(out);
+    }
+    match case[0] {
+        b'W' => answers::answer_writing(out, case),
+        b'R' => answers::answer_reading(out, case),
+        b'I' => utc::answer_instant(out, case),
+        b'A' => utc::answer_sum(out, case),
+        b'D' => utc::answer_difference(out, case),
+        b'T' => utc::answer_stamp(out, case),
+        b'S' => utc::answer_restated(out, case),
+        _ => answers::unknown(out),
+    }
+}
+
 fn print_answer(case: &[u8]) {
     let mut out = [0u8; LINE];
-    let end = answers::answer(&mut out, case);
+    let end = answer(&mut out, case);
     let next = show::line::octet(&mut out, end, b'\n');
     show::start_of(&out, next);
 }

@@ -1,9 +1,9 @@
--- `compare::parse::take_digits` is safe and ends. Nothing has to hold from turn to turn, since `with_digit` tests each number. The measure is how many octets are left. Assumes nothing.
+-- `compare::fields::take_digits` is safe and ends. Nothing has to hold from turn to turn, since `with_digit` tests each number. The measure is how many octets are left. Assumes nothing.
 use Prim.Native.Nat.{_-_}
 use lib.ListN.{length}
 use borrow.Author.Needs.{needs}
-use Rattle.compare.proofs.parse.take_digits.Statement.{statement}
-use Rattle.compare.proofs.parse.take_digits.Tie as tie
+use Rattle.compare.proofs.fields.take_digits.Statement.{statement}
+use Rattle.compare.proofs.fields.take_digits.Tie as tie
 
 abbrev Inv-loop : tie.InvT-loop
 Inv-loop s from most n₀ at₀ n at = Unit {0}

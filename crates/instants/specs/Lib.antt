@@ -1,0 +1,4 @@
+pub mod Meaning
+pub mod Modulo
+pub mod Steps
+pub mod Calls

@@ -1,0 +1,3 @@
+pub mod Instant
+pub mod Calls
+pub mod Bench

@@ -1,0 +1,23 @@
+/* What the compared calls share: where they are counted, how a difference is kept, and how parts are lent and held. */
+#ifndef MASS_COUNTING_H
+#define MASS_COUNTING_H
+
+#include "check.h"
+#include "describe.h"
+
+extern tally *now;                     /* of the worker, for the unit at work */
+extern uint32_t checks_of_unit;        /* so far; gives the filling, which so is the same whoever does the unit */
+
+/* One check is done. */
+void count_answer(uint32_t refusal);
+
+/* A new difference: why it is one, and the call. False where enough are kept; the caller then says no more. */
+bool start_difference(words *to, const char *why);
+
+/* Fills all ten numbers before the call. */
+void lend_parts(parts_answer *to);
+
+/* What is wrong with the library's answer to a call that fills so many parts, or null. */
+const char *wrong_in_parts(const parts_answer *library, const parts_answer *second, int filled);
+
+#endif

@@ -1,0 +1,104 @@
+/* The values that are measured: drawn by chance, and all of them accepted. */
+#ifndef VALUES_H
+#define VALUES_H
+
+#include <stdio.h>
+#include <stdlib.h>
+
+#include "stamp.h"
+
+enum { VALUES = 4096 };
+enum { LAST_NUMBER = 3652058, LAST_COMPACT_YEAR = 6428 };
+
+/* A kind to write or read, in a form. */
+typedef struct {
+    uint32_t kind;                      /* one of the nine: an either-or reader has samples of both its kinds */
+    uint32_t form;
+    uint32_t digits;                    /* of a text */
+} stamps;
+
+typedef struct {
+    stamp_value value;
+    uint32_t number;                    /* a day number */
+    uint8_t octets[STAMP_LONGEST_IMAGE];
+    size_t length;
+} sample;
+
+/* For the calls on instants. In a sample these would make all rows slower, as more had to be loaded. */
+typedef struct {
+    stamp_value value;
+    int64_t instant, other;             /* the value's instant, and another */
+    int64_t added;                      /* what leads from the one to the other */
+    int32_t to;                         /* an offset to restate the value at */
+} moment;
+
+static sample samples[VALUES];
+static moment moments[VALUES];
+
+/* Fixed seed: every process measures the same values. */
+static uint64_t chance(uint64_t below)
+{
+    static uint64_t state = UINT64_C(0x9E3779B97F4A7C15);
+    state ^= state << 13;
+    state ^= state >> 7;
+    state ^= state << 17;
+    return state % below;
+}
+
+static int32_t chance_offset(void)
+{
+    const int32_t minutes = (int32_t)(1 + chance(STAMP_MAX_OFFSET));
+    return chance(2) ? minutes : -minutes;
+}
+
+/* A day or more from either end of the years 1 to 9999, so that there is a stamp of it at every offset. */
+static int64_t chance_instant(void)
+{
+    const uint64_t day = 1 + chance(LAST_NUMBER - 1);
+    return (int64_t)(day * STAMP_END_OF_DAY + chance(STAMP_END_OF_DAY));
+}
+
+static void expect_accepted(uint32_t refusal)
+{
+    if (refusal != STAMP_ACCEPTED) {
+        fprintf(stderr, "measure: a value was refused\n");
+        exit(1);
+    }
+}
+
+static stamp_settings settings_for(const stamps *r)
+{
+    const bool extended = r->form == STAMP_EXTENDED;
+    return stamp_make_settings(r->form != STAMP_TEXT, extended ? STAMP_EXTENDED_FROM : 0, extended ? STAMP_MAX_DIGITS : r->digits);
+}
+
+/* No kind has an offset of zero here: compact, it would be written as the plain kind. */
+static void fill_stamps(const stamps *r)
+{
+    for (int i = 0; i < VALUES; i++) {
+        sample *s = &samples[i];
+        const uint32_t kind = r->kind < STAMP_KINDS ? r->kind : 2 * (r->kind - STAMP_KINDS) + (uint32_t)chance(2);
+        const uint32_t year = 1 + (uint32_t)chance(LAST_COMPACT_YEAR), month = 1 + (uint32_t)chance(12);
+        const uint32_t day = 1 + (uint32_t)chance(28);
+        const uint64_t micros = chance(STAMP_END_OF_DAY);
+        const int32_t offset = chance_offset();
+        s->value = stamp_make_value(kind, year, month, day, micros, offset);
+        s->number = (uint32_t)chance(LAST_NUMBER + 1);
+        expect_accepted(stamp_encode(&s->value, settings_for(r), s->octets, sizeof s->octets, &s->length));
+    }
+}
+
+/* Every day of the calendar comes, also those above 28, by which a stamp that is restated may leave its month. */
+static void fill_moments(const stamps *r)
+{
+    (void)r;
+    for (moment *m = moments; m < moments + VALUES; m++) {
+        m->instant = chance_instant();
+        m->other = chance_instant();
+        m->added = m->other - m->instant;
+        m->to = chance_offset();
+        expect_accepted(stamp_value_at(m->instant, chance_offset(), &m->value));
+    }
+}
+
+#endif
