@@ -60,6 +60,7 @@ pub fn restate(stamp: DatetimeTz, to: Offset) -> Near
     }
     let read = reads(time.micros, offset, to);
     let days = whole_days(read);
+    // Two more than the day of the month there.
     let day = date.day as u64 + days;
     if day < 3 {
         return Near::Elsewhere;
