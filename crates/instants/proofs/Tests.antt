@@ -1,10 +1,11 @@
 -- What the code's tests tell. Assumes nothing.
 --     below, from-least       of a number that is below the least instant, and of one that is not
+--     time-small              of a time in range
 --     day-known, no-such-day  of the calendar's answer for a date
 --     date-known, past-years  of the calendar's answer for the day of a local reading
 use mathlib.Core.Path.{_≡_, sym}
 use mathlib.Core.Bool.{true, false}
-use Prim.Native.Nat.{ℕ, _/_}
+use Prim.Native.Nat.{ℕ, _/_, _≤_}
 use native.Mathlib.Omega.{arith}
 use lib.IntN.{ℤ}
 use lib.Dec.{ltb, leb}
@@ -12,6 +13,7 @@ use lib.Signed.{ltZ, leZ}
 use borrow.Author.Tests.{leb-true, leb-false, lt-ltb, le-ltb}
 use Rattle.format.specs.Words.{accepted, refused}
 use Rattle.format.specs.Calendar.{Day, isDay, dayNumber, dayOf, numberAsked, dayAsked}
+use Rattle.format.specs.Values.{timeInRange}
 use Rattle.format.proofs.Cases.{passed, failed, same}
 use Rattle.moments.specs.Instant.{leastInstant, greatestInstant, isInstant, endOfYears}
 use Rattle.moments.proofs.Order.{le-not}
@@ -24,6 +26,10 @@ below i e = rw (le-not leastInstant i, e)
 pub from-least : (i : ℤ) → ltZ i leastInstant ≡ false → isInstant i ≡ leZ i greatestInstant
 unfolding isInstant
 from-least i e = rw (le-not leastInstant i, e)
+
+pub time-small : (n : ℕ) → timeInRange n ≡ true → n ≤ 86400000000
+unfolding timeInRange
+time-small n e = leb-true n 86400000000 e
 
 pub day-known : (d : Day) (n : ℕ) → accepted n ≡ numberAsked d → (isDay d ≡ true) × (dayNumber d ≡ n)
 unfolding numberAsked

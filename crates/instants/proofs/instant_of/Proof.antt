@@ -1,14 +1,12 @@
 -- `instant_of` meets its contract: its tests are those of `inRange`, and of a value in range the difference fits. Assumes nothing.
 use mathlib.Core.Path.{_≡_, sym, _∙_, ap}
 use mathlib.Core.Bool.{true}
-use Prim.Native.Nat.{ℕ, _≤_}
 use native.Mathlib.Omega.{arith}
 use lib.IntN.{_-ℤ_}
 use mir.Syntax.{w64}
 use mir.Val.{SFits, toZ, ofZ}
 use mir.Facts.{toZ-ofZ}
 use borrow.Author.Needs.{needs, sfits-of}
-use borrow.Author.Tests.{leb-true}
 use Rattle.format.specs.Calendar.{isDay, dayNumber}
 use Rattle.format.specs.Values.{DatetimeTz, Value, timeInRange, offsetInRange, inRange}
 use Rattle.format.proofs.Cases.{not-true, not-false, both-false}
@@ -19,15 +17,11 @@ use Rattle.moments.specs.Instant.{localOf, instantOf}
 use Rattle.moments.specs.Calls.{instant}
 use Rattle.moments.proofs.Limits.{within}
 use Rattle.instants.proofs.Sizes.{instant-small}
-use Rattle.instants.proofs.Tests.{day-known, no-such-day}
+use Rattle.instants.proofs.Tests.{time-small, day-known, no-such-day}
 use Rattle.instants.proofs.instant_of.Statement.{statement}
 use Rattle.instants.proofs.instant_of.Tie as tie
 
 -- ---- what the tests tell
-
-time-small : (n : ℕ) → timeInRange n ≡ true → n ≤ 86400000000
-unfolding timeInRange
-time-small n e = leb-true n 86400000000 e
 
 day : (c : tie.Else2)
     → (let v = c .before .before .before .before .before .before .before .before .before .before .before .args .stamp in (isDay (dayFrom (v .date)) ≡ true) × (dayNumber (dayFrom (v .date)) ≡ c .before .before .before .before .before .day .given .0 .0))

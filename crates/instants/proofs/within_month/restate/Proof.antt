@@ -1,10 +1,9 @@
 -- `within_month::restate` meets its contract: where the day stays in its month, the law of clocks (`stays`); elsewhere it says nothing. Assumes nothing.
 use mathlib.Core.Path.{_≡_, sym, _∙_}
 use mathlib.Core.Bool.{true}
-use Prim.Native.Nat.{ℕ, _-_, _*_, _/_, _%_, _≤_}
+use Prim.Native.Nat.{_-_, _*_, _/_, _%_}
 use native.Mathlib.Omega.{arith}
 use borrow.Author.Needs.{needs}
-use borrow.Author.Tests.{leb-true}
 use Rattle.format.specs.Calendar.{isDay, leap}
 use Rattle.format.specs.Values.{DatetimeTz, timeInRange, offsetInRange, inRange}
 use Rattle.format.proofs.Cases.{not-false}
@@ -12,6 +11,7 @@ use Rattle.format.proofs.Dates.{parts, short-month}
 use Rattle.calendar.specs.Meaning.{dayFrom}
 use Rattle.values.specs.Meaning.{datetimeTzValue}
 use Rattle.instants.proofs.Clocks.{stays}
+use Rattle.instants.proofs.Tests.{time-small}
 use Rattle.instants.proofs.within_month.restate.Statement.{statement}
 use Rattle.instants.proofs.within_month.restate.Tie as tie
 
@@ -32,10 +32,6 @@ to c = sym (c .before .in-range4 .ensures) ∙ not-false _ (c .if4 .left)
 in-range : (c : tie.Else4) → inRange DatetimeTz (datetimeTzValue (c .before .before .before .before .before .before .before .before .before .before .before .args .stamp)) ≡ true
 unfolding inRange
 in-range c = rw (day c, time c, offset c)
-
-time-small : (n : ℕ) → timeInRange n ≡ true → n ≤ 86400000000
-unfolding timeInRange
-time-small n e = leb-true n 86400000000 e
 
 in-range-requires : tie.Need-in-range-requires
 in-range-requires c κs = search needs
