@@ -1,4 +1,4 @@
-# make            the library, libstamp.a and libstamp.so.1.2, and the tool build/stamp, for this machine
+# make            the library, libstamp.a and libstamp.so.1.3, and the tool build/stamp, for this machine
 # make test       the gate
 # make install    library, header, stamp.pc, tool and man page, under PREFIX, the library in LIBDIR; all below DESTDIR if there is one
 # make uninstall  takes away what make install puts there, given the same words
@@ -99,6 +99,7 @@ compare: build/mass
 # The plain C is compiled as the kit compiles the library: by the same compiler at the same level. It comes without the C library's headers.
 CLANG = $(shell packaging/toolchain)/bin/clang
 LEVEL := -O3 -fPIC
+PLAIN := $(patsubst measure/%.c,build/%.o,$(wildcard measure/plain_*.c))
 SYSTEM = -isystem $(shell $(CC) -print-file-name=include) -isystem /usr/include -isystem /usr/include/$(shell $(CC) -print-multiarch)
 
 # Behind libstamp.a, as two checks at once would use one folder.
@@ -108,7 +109,7 @@ build/libmeasured.a: $(PROOFS) packaging/archive | build libstamp.a
 build/%.o: measure/%.c $(wildcard measure/*.h) $(HEADER) Makefile | build
 	$(CLANG) --target=$(MACHINE)-unknown-linux-gnu -std=c99 $(LEVEL) -DLEVEL='"$(LEVEL)"' -Wall -Wextra $(SYSTEM) -Iinclude -c $< -o $@
 
-build/measure: build/measure.o build/plain_reading.o build/plain_writing.o build/plain_calendar.o build/plain_instants.o libstamp.a build/libmeasured.a
+build/measure: build/measure.o $(PLAIN) libstamp.a build/libmeasured.a
 	$(CC) $^ -o $@
 
 measure: able build/measure

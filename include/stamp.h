@@ -1,9 +1,10 @@
 /* stamp.h - reads and writes date-and-time stamps (BDE BER date-and-time format), for C99 and C++.
  *
  * A stamp is the contents octets of one of six kinds in one of three forms. Identifier and length octets are the
- * caller's. The library (libstamp.a, libstamp.so) exports seven functions: stamp_write and stamp_read for stamps, and
- * stamp_instant, stamp_add, stamp_difference, stamp_at and stamp_restate for their UTC instants. All else here is a
- * constant, a struct, or a small inline function over these.
+ * caller's. The library (libstamp.a, libstamp.so) exports nine functions: stamp_write and stamp_read for stamps,
+ * stamp_instant, stamp_add, stamp_difference, stamp_at and stamp_restate for their UTC instants, and
+ * stamp_schedule_read and stamp_schedule_record for schedule files. All else here is a constant, a struct, or a small
+ * inline function over these.
  *
  *     uint8_t lent[STAMP_LONGEST_IMAGE];
  *     size_t count;
@@ -11,11 +12,13 @@
  *     uint32_t refusal = stamp_encode(&night, stamp_default_settings(), lent, sizeof lent, &count);
  *
  * Every call takes any input and answers: a refusal number, 0 for none. After a refusal nothing has changed but
- * *count, which is 0: a lent buffer and a lent answer stay as they were. An octet past an accepted image stays too.
+ * *count and *records, which are 0, and *fault, which is the place of the bad record: a lent buffer and a lent answer
+ * stay as they were. An octet past an accepted image stays too.
  * Nothing is allocated and nothing is kept between calls (no global state), so calls from several threads
  * need no lock; each thread lends its own buffers. A pointer to no octets (length or room 0) may be null; no other.
  * What is lent to one call must not overlap: octets[0 .. room-1] and *count of a write, octets[0 .. length-1] and
- * parts[0 .. 7] of a read. The calls on instants are handed numbers and lent one place to answer in. */
+ * parts[0 .. 7] of a read, file[0 .. length-1] and the answers of a schedule. The calls on instants are handed numbers
+ * and lent one place to answer in. */
 #ifndef STAMP_H
 #define STAMP_H
 
@@ -25,7 +28,7 @@
 #include <stdbool.h>
 #endif
 
-#define STAMP_RELEASE "1.2"
+#define STAMP_RELEASE "1.3"
 
 /* ---- Kinds, forms, limits ---- */
 
@@ -69,15 +72,26 @@ enum {
 #define STAMP_MAX_INSTANT 315537983940000000LL
 #define STAMP_UNIX_EPOCH 62135596800000000LL /* of 1970-01-01T00:00+00:00, which Unix time counts from */
 
+/* Schedule files. All numbers in one are big-endian. The header is four numbers of 32 bits: the count of records, where
+ * they start (16), the count of stamp octets, where these start (16 + 12 * records). A record is 12 octets: where its
+ * stamp starts within the stamp octets (32 bits), the stamp's length (16), channel (16), correction (32, signed). The
+ * stamps are DatetimeTz contents, one behind the other in the order of the records; their instants never decrease. */
+#define STAMP_SCHEDULE_HEADER 16       /* octets of the header */
+#define STAMP_SCHEDULE_RECORD 12       /* octets of a record */
+#define STAMP_MAX_RECORDS 1000
+#define STAMP_MAX_CHANNEL 16           /* channels are 1 to 16 */
+#define STAMP_MAX_CORRECTION 1000000   /* parts in 10 to the 18, or as much below 0 */
+#define STAMP_LONGEST_SCHEDULE 44016   /* octets: no accepted file is longer */
+
 /* ---- Refusals ---- */
 
 /* The one place of each refusal's name, number and sentence; the tool and the man page say the same words. Writers
- * give 1 to 4, readers 5 to 8, the calls on instants 2 and 9, always the first that applies. A kind number that is no
- * kind is 2, in reading too. */
+ * give 1 to 4, readers 5 to 8, the calls on instants 2 and 9, those on schedules 13 to 15, and 5 to 8 for a stamp in
+ * the file; always the first that applies. A kind number that is no kind is 2, in reading too. 10 to 12 are free. */
 #define STAMP_REFUSALS(X) \
     X(STAMP_REFUSED_DIGITS, 1, "the digits setting is above 6") \
     X(STAMP_REFUSED_VALUE, 2, "a part of the value or an offset is out of range, there is no such day, " \
-                              "or no stamp has such an instant") \
+                              "no stamp has such an instant, or the schedule has no such record") \
     X(STAMP_REFUSED_NO_COMPACT, 3, "the value is too late to have a compact form") \
     X(STAMP_REFUSED_BUFFER, 4, "the buffer is shorter than the stamp") \
     X(STAMP_REFUSED_LENGTH, 5, "the length is not one that the chosen form of this kind can have") \
@@ -88,12 +102,17 @@ enum {
     X(STAMP_REFUSED_RANGE, 8, "a field is out of range: there is no such day, time of day or offset, " \
                               "or no value has such a number") \
     X(STAMP_REFUSED_RESULT, 9, "the result can't be given: no stamp has such an instant, " \
-                               "or the local reading is outside the years 1 to 9999")
+                               "or the local reading is outside the years 1 to 9999") \
+    X(STAMP_REFUSED_HEADER, 13, "the schedule's header is wrong: it says too many records, " \
+                                "or its regions do not follow it one behind the other and end the file") \
+    X(STAMP_REFUSED_RECORD, 14, "a record's channel or correction is out of range, " \
+                                "or its stamp is not in its place") \
+    X(STAMP_REFUSED_ORDER, 15, "a record's instant is before that of the record before it")
 
 #define STAMP_REFUSAL_CONSTANT(name, number, sentence) name = number,
 enum { STAMP_REFUSALS(STAMP_REFUSAL_CONSTANT) STAMP_ACCEPTED = 0 };
 #undef STAMP_REFUSAL_CONSTANT
-#define STAMP_LAST_REFUSAL 9
+#define STAMP_LAST_REFUSAL 15
 
 /* ---- The calls of the library ---- */
 
@@ -133,6 +152,18 @@ uint32_t stamp_at(int64_t instant, int32_t offset, int64_t parts[5]);
  * stamp_restate_value is the same with names. */
 uint32_t stamp_restate(uint32_t year, uint32_t month, uint32_t day, uint64_t micros, int32_t offset, int32_t to,
                        int64_t parts[5]);
+
+/* Reads a schedule file of exactly `length` octets from the front to the end: the header, then each record in turn.
+ * Answers the refusal number, 0 for none. *records is the number of records, and 0 after a refusal. *fault is the place
+ * of the refused record, from one; 0 where the header is refused, and where nothing is. Refusals 13, then for each
+ * record 14, 5 to 8 (its stamp, as stamp_read of STAMP_DATETIMETZ refuses it), 15. */
+uint32_t stamp_schedule_read(const uint8_t *file, size_t length, uint32_t *records, uint32_t *fault);
+
+/* The record at a place, from one, of a schedule file that stamp_schedule_read accepts. parts: channel, correction,
+ * instant, start of the stamp within the file, its length. All five stay as lent after a refusal. The file's own
+ * refusals; then 2 for a place that the file hasn't. Each call reads the whole file. stamp_schedule_at is the same with
+ * names. */
+uint32_t stamp_schedule_record(const uint8_t *file, size_t length, uint32_t place, int64_t parts[5]);
 
 #ifdef __cplusplus
 }
@@ -308,6 +339,31 @@ static inline uint32_t stamp_restate_value(const stamp_value *value, int32_t to,
     return refusal;
 }
 
+/* ---- Records of schedules ---- */
+
+/* A correction of one channel, from an instant on. */
+typedef struct stamp_record {
+    uint32_t channel;                  /* 1 to 16 */
+    int32_t correction;                /* parts in 10 to the 18 */
+    int64_t instant;                   /* of its stamp */
+    size_t start, length;              /* of its stamp within the file */
+} stamp_record;
+
+/* stamp_schedule_record. *found stays as lent after a refusal. */
+static inline uint32_t stamp_schedule_at(const uint8_t *file, size_t length, uint32_t place, stamp_record *found)
+{
+    int64_t parts[5] = {0};
+    uint32_t refusal = stamp_schedule_record(file, length, place, parts);
+    if (refusal != STAMP_ACCEPTED)
+        return refusal;
+    found->channel = (uint32_t)parts[0];
+    found->correction = (int32_t)parts[1];
+    found->instant = parts[2];
+    found->start = (size_t)parts[3];
+    found->length = (size_t)parts[4];
+    return STAMP_ACCEPTED;
+}
+
 /* ---- Words and lengths ---- */
 
 /* "Date" to "DatetimeTz"; "" for a number that is none of the six kinds. */
@@ -324,7 +380,7 @@ static inline const char *stamp_form_name(uint32_t form)
     return form < STAMP_FORMS ? names[form] : "";
 }
 
-/* The sentence of a refusal; "accepted" for 0, "no such refusal" above 9. */
+/* The sentence of a refusal; "accepted" for 0, "no such refusal" for a number that is none. */
 static inline const char *stamp_refusal_sentence(uint32_t refusal)
 {
 #define STAMP_REFUSAL_CASE(name, number, sentence) case number: return sentence;

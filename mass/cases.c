@@ -7,9 +7,10 @@
 #include "../second/fast.h"
 #include "stamp.h"
 
-#define LONGEST_CASE 128               /* octets of the longest room and of the longest input */
+#define LONGEST_CASE 128               /* octets of the longest room and of the longest input but a file */
+#define LONGEST_FILE_CASE 65536        /* octets of the longest file */
 #define LENT 0x5A                      /* each lent octet before the call */
-#define PARTS 5                        /* that a call on instants fills at most */
+#define PARTS 5                        /* that a call on instants or on a record fills at most */
 
 static int differences;
 
@@ -45,12 +46,20 @@ static bool write_case(const char *line)
     return true;
 }
 
-static size_t take_hex(const char *hex, uint8_t *octets)
+/* The value of a digit, or -1. */
+static int hex_digit(char letter)
+{
+    static const char digits[] = "0123456789ABCDEF";
+    const char *found = letter == '\0' ? NULL : strchr(digits, letter);
+    return found == NULL ? -1 : (int)(found - digits);
+}
+
+/* As many octets as there are two digits for, and room. */
+static size_t take_hex(const char *hex, uint8_t *octets, size_t room)
 {
     size_t length = 0;
-    unsigned octet;
-    while (length < LONGEST_CASE && sscanf(hex + 2 * length, "%2x", &octet) == 1)
-        octets[length++] = (uint8_t)octet;
+    for (; length < room && hex_digit(hex[0]) >= 0 && hex_digit(hex[1]) >= 0; hex += 2)
+        octets[length++] = (uint8_t)(16 * hex_digit(hex[0]) + hex_digit(hex[1]));
     return length;
 }
 
@@ -62,7 +71,7 @@ static bool read_case(const char *line)
     int64_t parts[8] = {0}, library_parts[8] = {0};
     if (sscanf(line, "R %" SCNu32 " %256s", &kind, hex) != 2)
         return false;
-    size_t length = take_hex(hex, octets);
+    size_t length = take_hex(hex, octets, LONGEST_CASE);
     uint32_t refusal = fast_read(kind, octets, length, parts);
     uint32_t library = stamp_read(kind, octets, length, library_parts);
     differences += library != refusal || memcmp(library_parts, parts, sizeof parts) != 0;
@@ -73,7 +82,7 @@ static bool read_case(const char *line)
     return true;
 }
 
-/* ---- Instants ---- */
+/* ---- Parts ---- */
 
 /* What is lent to the call of the second program and to that of the library: a guard, the parts, a guard. */
 typedef struct lent_parts {
@@ -100,6 +109,8 @@ static bool print_parts(uint32_t refusal, uint32_t library, const lent_parts *le
     printf("\n");
     return true;
 }
+
+/* ---- Instants ---- */
 
 static bool instant_case(const char *line)
 {
@@ -158,6 +169,33 @@ static bool restate_case(const char *line)
     return print_parts(refusal, stamp_restate(year, month, day, micros, offset, to, lent.library + 1), &lent, 5);
 }
 
+/* ---- Schedules ---- */
+
+static bool schedule_read_case(const char *line)
+{
+    static uint8_t file[LONGEST_FILE_CASE];
+    uint32_t records, fault, library_records, library_fault;
+    size_t length = take_hex(line + strlen("F "), file, sizeof file);
+    uint32_t refusal = fast_schedule_read(file, length, &records, &fault);
+    uint32_t library = stamp_schedule_read(file, length, &library_records, &library_fault);
+    differences += library != refusal || library_records != records || library_fault != fault;
+    printf("%" PRIu32 " %" PRIu32 "\n", refusal, refusal == 0 ? records : fault);
+    return true;
+}
+
+static bool schedule_record_case(const char *line)
+{
+    static uint8_t file[LONGEST_FILE_CASE];
+    uint32_t place;
+    int before;
+    lent_parts lent = lend_parts();
+    if (sscanf(line, "P %" SCNu32 " %n", &place, &before) != 1)
+        return false;
+    size_t length = take_hex(line + before, file, sizeof file);
+    uint32_t refusal = fast_schedule_record(file, length, place, lent.second + 1);
+    return print_parts(refusal, stamp_schedule_record(file, length, place, lent.library + 1), &lent, 5);
+}
+
 /* False for a line that is no case. */
 static bool answer_case(const char *line)
 {
@@ -169,13 +207,15 @@ static bool answer_case(const char *line)
     case 'D': return difference_case(line);
     case 'T': return at_case(line);
     case 'S': return restate_case(line);
+    case 'F': return schedule_read_case(line);
+    case 'P': return schedule_record_case(line);
     default: return false;
     }
 }
 
 int answer_cases(void)
 {
-    char line[2 * LONGEST_CASE + 200];
+    static char line[2 * LONGEST_FILE_CASE + 200];
     uint64_t cases = 0;
     while (fgets(line, sizeof line, stdin) != NULL) {
         if (!answer_case(line)) {

@@ -1,12 +1,7 @@
 /* Writing and reading. */
-#define _DEFAULT_SOURCE                /* MAP_ANONYMOUS */
 #include "check.h"
 
-#include <stdio.h>
-#include <stdlib.h>
 #include <string.h>
-#include <sys/mman.h>
-#include <unistd.h>
 
 #include "../second/fast.h"
 #include "counting.h"
@@ -98,23 +93,6 @@ bool check_write(const stamp_value *value, stamp_settings settings, size_t room,
 }
 
 /* ---- Reading ---- */
-
-/* The end of memory that may be read; what lies behind it may not be touched. An input ends there, so that a reader
- * that looks past its input is stopped. */
-static uint8_t *fence(void)
-{
-    static uint8_t *found;
-    if (found != NULL)
-        return found;
-    size_t page = (size_t)sysconf(_SC_PAGESIZE);
-    uint8_t *pages = mmap(NULL, 2 * page, PROT_READ | PROT_WRITE, MAP_PRIVATE | MAP_ANONYMOUS, -1, 0);
-    if (pages == MAP_FAILED || mprotect(pages + page, page, PROT_NONE) != 0) {
-        perror("mass: no memory with a fence");
-        exit(2);
-    }
-    found = pages + page;
-    return found;
-}
 
 static void write_again(const parts_answer *answer)
 {

@@ -1,12 +1,14 @@
 /* The compared calls. Each calls the library and the second program with the same input and holds everything that comes
  * back to each other: refusal number, count, every octet of the lent buffer and of the guards around it, all parts. A
- * part of a refused call, an octet past an image and a guard must also be as lent, whatever both say. */
+ * part of a refused call, an octet past an image, a guard and the octets of an input must also be as lent, whatever
+ * both say. */
 #ifndef MASS_CHECK_H
 #define MASS_CHECK_H
 
 #include "stamp.h"
 
 #define LONGEST_TRIED 40               /* octets lent or read at most */
+#define LONGEST_FILE 65600             /* octets of a schedule file: the longest stamp that a record tells of fits */
 #define DIFFERENCES_KEPT 20
 #define DIFFERENCE_ROOM 1200           /* characters of one difference, printed whole */
 #define OTHER_ANSWER (STAMP_LAST_REFUSAL + 1) /* counts answers that are no refusal number */
@@ -16,8 +18,15 @@ typedef struct image {
     size_t length;
 } image;
 
+/* A schedule file. */
+typedef struct card {
+    uint8_t octets[LONGEST_FILE];
+    size_t length;
+} card;
+
 typedef enum asked {
-    ASKED_WRITE, ASKED_READ, ASKED_INSTANT, ASKED_ADD, ASKED_DIFFERENCE, ASKED_AT, ASKED_RESTATE
+    ASKED_WRITE, ASKED_READ, ASKED_INSTANT, ASKED_ADD, ASKED_DIFFERENCE, ASKED_AT, ASKED_RESTATE, ASKED_SCHEDULE_READ,
+    ASKED_SCHEDULE_RECORD
 } asked;
 
 /* The input of one call; what another would be asked is left as it was. */
@@ -30,6 +39,8 @@ typedef struct call {
     image read;
     int64_t a, b;                      /* an instant and what is added to it, or two instants */
     int32_t to;                        /* the offset at which an instant or a stamp is asked for */
+    uint32_t place;                    /* of a record in the file */
+    card file;
 } call;
 
 typedef struct difference {
@@ -82,5 +93,13 @@ bool check_at(int64_t instant, int32_t offset, stamp_value *found);
 
 /* A stamp restated; what was accepted is asked for its instant, which must be that of the stamp given. */
 void check_restate(const stamp_value *value, int32_t to);
+
+/* The calls on schedules. */
+
+/* Reads a whole file; true where it was accepted, and rightly. */
+bool check_schedule_read(const card *file);
+
+/* The record at a place. */
+void check_schedule_record(const card *file, uint32_t place);
 
 #endif

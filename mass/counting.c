@@ -1,7 +1,11 @@
+#define _DEFAULT_SOURCE                /* MAP_ANONYMOUS */
 #include "counting.h"
 
 #include <stdio.h>
+#include <stdlib.h>
 #include <string.h>
+#include <sys/mman.h>
+#include <unistd.h>
 
 #define PARTS_LENT 10
 
@@ -60,4 +64,20 @@ const char *wrong_in_parts(const parts_answer *library, const parts_answer *seco
     if (library->refusal != STAMP_ACCEPTED && !parts_are_as_lent(library, 1, filled))
         return "a part changed though the call was refused";
     return NULL;
+}
+
+uint8_t *fence(void)
+{
+    static uint8_t *found;
+    if (found != NULL)
+        return found;
+    size_t page = (size_t)sysconf(_SC_PAGESIZE);
+    size_t room = (LONGEST_FILE + page - 1) / page * page;
+    uint8_t *pages = mmap(NULL, room + page, PROT_READ | PROT_WRITE, MAP_PRIVATE | MAP_ANONYMOUS, -1, 0);
+    if (pages == MAP_FAILED || mprotect(pages + room, page, PROT_NONE) != 0) {
+        perror("mass: no memory with a fence");
+        exit(2);
+    }
+    found = pages + room;
+    return found;
 }

@@ -1,4 +1,5 @@
-/* What the compared calls share: where they are counted, how a difference is kept, and how parts are lent and held. */
+/* What the compared calls share: where they are counted, how a difference is kept, how parts are lent and held, and
+ * where an input ends. */
 #ifndef MASS_COUNTING_H
 #define MASS_COUNTING_H
 
@@ -19,5 +20,9 @@ void lend_parts(parts_answer *to);
 
 /* What is wrong with the library's answer to a call that fills so many parts, or null. */
 const char *wrong_in_parts(const parts_answer *library, const parts_answer *second, int filled);
+
+/* The end of memory that may be read; what lies behind it may not be touched. An input ends there, so that a reader
+ * that looks past its input is stopped. There is room for LONGEST_FILE octets before it. */
+uint8_t *fence(void);
 
 #endif

@@ -4,6 +4,8 @@
 #include <stdarg.h>
 #include <stdio.h>
 
+#define FILE_SAID 400                  /* octets of a file; there must be room for the answers behind them */
+
 static void say(words *to, const char *format, ...)
 {
     va_list rest;
@@ -27,6 +29,14 @@ static void say_value(words *to, const stamp_value *value)
 {
     say(to, "year %" PRIu32 " month %" PRIu32 " day %" PRIu32 ", micros %" PRIu64 ", offset %" PRId32,
         value->year, value->month, value->day, value->micros, value->offset);
+}
+
+static void say_file(words *to, const card *file)
+{
+    say(to, "%zu octets: ", file->length);
+    say_hex(to, file->octets, file->length < FILE_SAID ? file->length : FILE_SAID);
+    if (file->length > FILE_SAID)
+        say(to, "..");
 }
 
 void say_call(words *to, const call *made)
@@ -60,6 +70,14 @@ void say_call(words *to, const call *made)
         say_value(to, &made->value);
         say(to, ", to %" PRId32, made->to);
         break;
+    case ASKED_SCHEDULE_READ:
+        say(to, "schedule read, ");
+        say_file(to, &made->file);
+        break;
+    case ASKED_SCHEDULE_RECORD:
+        say(to, "schedule record, place %" PRIu32 ", ", made->place);
+        say_file(to, &made->file);
+        break;
     }
     say(to, "\n");
 }
@@ -75,7 +93,7 @@ void say_write(words *to, const char *who, const write_answer *answer)
     say(to, "\n");
 }
 
-/* The parts of each call in order; a null ends them. */
+/* The parts of each call in order; a null ends them. A write and a full reading fill none. */
 static const char *const part_names[][9] = {
     [ASKED_WRITE] = {NULL},
     [ASKED_READ] = {"kind", "form", "digits", "year", "month", "day", "micros", "offset"},
@@ -84,6 +102,8 @@ static const char *const part_names[][9] = {
     [ASKED_DIFFERENCE] = {"difference"},
     [ASKED_AT] = {"year", "month", "day", "micros", "offset"},
     [ASKED_RESTATE] = {"year", "month", "day", "micros", "offset"},
+    [ASKED_SCHEDULE_READ] = {NULL},
+    [ASKED_SCHEDULE_RECORD] = {"channel", "correction", "instant", "start", "length"},
 };
 
 int parts_filled(asked which)
@@ -105,6 +125,12 @@ void say_parts(words *to, const char *who, asked which, const parts_answer *answ
             say(to, ", %s %" PRId64, names[i], answer->parts[1 + i]);
     }
     say(to, "\n");
+}
+
+void say_whole(words *to, const char *who, const whole_answer *answer)
+{
+    say(to, "  %s refusal %" PRIu32 ", records %" PRIu32 ", fault %" PRIu32 "\n", who, answer->refusal,
+        answer->numbers[RECORDS], answer->numbers[FAULT]);
 }
 
 void say_wanted_instant(words *to, int64_t instant)

@@ -13,11 +13,18 @@ typedef struct write_answer {
     uint8_t area[GUARD + LONGEST_TRIED + GUARD];
 } write_answer;
 
-/* Of a read, or of a call on instants. */
+/* Of a read, of a call on instants, or of a record in a schedule. */
 typedef struct parts_answer {
     uint32_t refusal;
     int64_t parts[1 + 8 + 1];          /* a guard, the eight of a read or the fewer of the others, guards */
 } parts_answer;
+
+/* Of the full reading of a schedule. */
+typedef struct whole_answer {
+    uint32_t refusal;
+    uint32_t numbers[5];               /* guards around the two below */
+} whole_answer;
+enum { RECORDS = 1, FAULT = 3 };
 
 /* True where the part is as it was lent; each of the ten was lent another number. */
 static inline bool part_is_as_lent(const parts_answer *answer, int part)
@@ -38,6 +45,7 @@ void say_call(words *to, const call *made);
 void say_write(words *to, const char *who, const write_answer *answer);
 /* A part that is as lent is a dash. */
 void say_parts(words *to, const char *who, asked which, const parts_answer *answer);
+void say_whole(words *to, const char *who, const whole_answer *answer);
 void say_wanted_instant(words *to, int64_t instant);
 
 #endif

@@ -5,7 +5,7 @@
 #include "chance.h"
 #include "stamp.h"
 
-#define DATE_UNITS 10001               /* short.c to instants.c say what a unit is */
+#define DATE_UNITS 10001               /* short.c to schedule.c say what a unit is */
 #define DAY_NUMBER_UNITS 256
 #define SHORT_UNITS 257
 #define OFFSET_UNITS 3001
@@ -15,6 +15,13 @@
 #define FRACTION_UNITS 1000
 #define CHOICE_UNITS (STAMP_KINDS * (STAMP_MAX_DIGITS + 1))
 #define MIDNIGHT_UNITS 3653
+#define HEADER_CARDS 4                 /* files of 0 to 3 records */
+#define HEADER_LENGTHS 7
+#define HEADER_WAYS 15                 /* to tell a number of the header */
+#define HEADER_UNITS (HEADER_CARDS * HEADER_LENGTHS * HEADER_WAYS)
+#define SMALL_CARDS 5                  /* files of 0 to 4 records */
+#define CARD_UNITS 1000
+#define THOUSAND_UNITS 400
 #define CHANCE_ROUNDS 10000            /* rounds in a unit of those by chance */
 
 void try_short(uint64_t unit, chance *by);
@@ -35,6 +42,10 @@ void try_zones(uint64_t unit, chance *by);
 void try_midnights(uint64_t unit, chance *by);
 void try_sums(uint64_t unit, chance *by);
 void try_random_instants(uint64_t unit, chance *by);
+void try_headers(uint64_t unit, chance *by);
+void try_cards(uint64_t unit, chance *by);
+void try_thousands(uint64_t unit, chance *by);
+void try_schedule(uint64_t unit, chance *by);
 
 uint64_t number_edge_units(void);
 uint64_t moment_edge_units(void);

@@ -12,7 +12,7 @@ typedef struct part {
     const char *what;
     void (*run)(uint64_t unit, chance *by);
     uint64_t units;
-    const char *must;                  /* the answers that have to come up, or the part has tried too little */
+    const char *must;                  /* the answers that have to come up; else the part has tried too little */
 } part;
 
 /* Does all units of a part; `number` is its place. What was counted, and the first differences in order of the units,

@@ -6,13 +6,36 @@
 
 #include "plain.h"
 
-static void print_hex(const uint8_t *octets, size_t count)
+/* A case has octets at its end: a stamp, or a file of at most so many. */
+enum { MOST_OCTETS = 65536 };
+
+static uint8_t octets[MOST_OCTETS];
+
+static int digit_of(char hex)
+{
+    return hex >= '0' && hex <= '9' ? hex - '0' : hex >= 'A' && hex <= 'F' ? hex - 'A' + 10 : -1;
+}
+
+/* The octets at a line's end, in hex, `-` for none. */
+static bool take_octets(const char *hex, size_t *length)
+{
+    if (*hex == '-')
+        hex++;
+    for (*length = 0; *hex != '\n' && *hex != '\0'; hex += 2, ++*length) {
+        if (*length == MOST_OCTETS || digit_of(hex[0]) < 0 || digit_of(hex[1]) < 0)
+            return false;
+        octets[*length] = (uint8_t)(16 * digit_of(hex[0]) + digit_of(hex[1]));
+    }
+    return true;
+}
+
+static void print_hex(const uint8_t *written, size_t count)
 {
     size_t i;
     if (count == 0)
         putchar('-');
     for (i = 0; i < count; i++)
-        printf("%02X", octets[i]);
+        printf("%02X", written[i]);
 }
 
 static bool answer_write(const char *line)
@@ -67,15 +90,11 @@ static bool print_given(uint32_t number, const given *after, int count)
 static bool answer_read(const char *line)
 {
     uint32_t kind;
-    char hex[160];
-    uint8_t octets[80];
-    size_t length = 0;
-    unsigned octet;
+    int hex;
+    size_t length;
     given lent = lent_numbers();
-    if (sscanf(line, "R %" SCNu32 " %159s", &kind, hex) != 2)
+    if (sscanf(line, "R %" SCNu32 " %n", &kind, &hex) != 1 || !take_octets(line + hex, &length))
         return false;
-    while (hex[0] != '-' && length < sizeof octets && sscanf(hex + 2 * length, "%2x", &octet) == 1)
-        octets[length++] = (uint8_t)octet;
     return print_given(plain_read(kind, octets, length, lent.numbers), &lent, 8);
 }
 
@@ -129,6 +148,30 @@ static bool answer_restate(const char *line)
     return print_given(plain_restate(year, month, day, micros, offset, to, lent.numbers), &lent, 5);
 }
 
+static bool answer_schedule(const char *line)
+{
+    size_t length;
+    uint32_t number, records, fault;
+    if (strncmp(line, "F ", 2) != 0 || !take_octets(line + 2, &length))
+        return false;
+    number = plain_schedule_read(octets, length, &records, &fault);
+    if (number == 0 ? fault != 0 : records != 0)
+        return false;
+    printf("%" PRIu32 " %" PRIu32 "\n", number, number == 0 ? records : fault);
+    return true;
+}
+
+static bool answer_record(const char *line)
+{
+    uint32_t place;
+    int hex;
+    size_t length;
+    given lent = lent_numbers();
+    if (sscanf(line, "P %" SCNu32 " %n", &place, &hex) != 1 || !take_octets(line + hex, &length))
+        return false;
+    return print_given(plain_schedule_record(octets, length, place, lent.numbers), &lent, 5);
+}
+
 static bool answer(const char *line)
 {
     switch (line[0]) {
@@ -139,13 +182,15 @@ static bool answer(const char *line)
     case 'D': return answer_difference(line);
     case 'T': return answer_at(line);
     case 'S': return answer_restate(line);
+    case 'F': return answer_schedule(line);
+    case 'P': return answer_record(line);
     default: return false;
     }
 }
 
 int main(void)
 {
-    char line[256];
+    static char line[2 * MOST_OCTETS + 64];
     while (fgets(line, sizeof line, stdin) != NULL)
         if (!answer(line))
             puts("?");

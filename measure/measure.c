@@ -1,5 +1,6 @@
 /* Times our calls beside the plain C version of the same work, in one process. Prints what was compiled and how often
- * it is run, `WHAT <tab> WORDS`, and then a line a row, `NAME <tab> OURS <tab> PLAIN`, in nanoseconds a call.
+ * it is run, `WHAT <tab> WORDS`, and then a line a row, `NAME <tab> OURS <tab> PLAIN`, in nanoseconds a call, or a
+ * record where the name says so.
  *
  * A row's calls go over many different values, in no order: with a few hundred the processor learns by heart which
  * branch each of them takes. Ours and plain take turns, and of all turns the median counts: what else the machine
@@ -22,6 +23,7 @@ static uint64_t kept;                   /* every answer goes here, so that no ca
 /* ---- the work: the values, one pass over them, ours and plain, and whether both accept and answer the same ---- */
 
 typedef struct {
+    int count;                          /* of values, which the time of a pass is divided by */
     void (*fill)(const stamps *);
     void (*ours)(const stamps *);
     void (*plain)(const stamps *);
@@ -64,7 +66,7 @@ static bool write_same(const stamps *r, int i)
         && memcmp(octets[0], octets[1], sizeof octets[0]) == 0;
 }
 
-static const work writing = {fill_stamps, write_ours, write_plain, write_same};
+static const work writing = {VALUES, fill_stamps, write_ours, write_plain, write_same};
 
 typedef uint32_t reader(uint32_t kind, const uint8_t *octets, size_t length, int64_t parts[8]);
 
@@ -89,7 +91,7 @@ static bool read_same(const stamps *r, int i)
     return ours == STAMP_ACCEPTED && plain == STAMP_ACCEPTED && memcmp(parts[0], parts[1], sizeof parts[0]) == 0;
 }
 
-static const work reading = {fill_stamps, read_ours, read_plain, read_same};
+static const work reading = {VALUES, fill_stamps, read_ours, read_plain, read_same};
 
 /* OURS and PLAIN are the calls on the sample s. */
 #define CALENDAR_WORK(name, OURS, PLAIN) \
@@ -111,7 +113,7 @@ static const work reading = {fill_stamps, read_ours, read_plain, read_same};
         (void)r; \
         return (OURS) == (PLAIN); \
     } \
-    static const work name##_work = {fill_stamps, name##_ours, name##_plain, name##_same};
+    static const work name##_work = {VALUES, fill_stamps, name##_ours, name##_plain, name##_same};
 
 CALENDAR_WORK(number, measured_day_number(s->value.year, s->value.month, s->value.day),
               plain_day_number(s->value.year, s->value.month, s->value.day))
@@ -144,7 +146,7 @@ CALENDAR_WORK(date, measured_date_of(s->number), plain_date_of(s->number))
         (void)r; \
         return ours == STAMP_ACCEPTED && plain == STAMP_ACCEPTED && memcmp(given[0], given[1], sizeof given[0]) == 0; \
     } \
-    static const work name##_work = {fill_moments, name##_ours, name##_plain, name##_same};
+    static const work name##_work = {VALUES, fill_moments, name##_ours, name##_plain, name##_same};
 
 #define PARTS m->value.year, m->value.month, m->value.day, m->value.micros, m->value.offset
 
@@ -153,6 +155,57 @@ INSTANT_WORK(add, m->instant, m->added)
 INSTANT_WORK(difference, m->instant, m->other)
 INSTANT_WORK(at, m->instant, m->to)
 INSTANT_WORK(restate, PARTS, m->to)
+
+typedef uint32_t schedule_reader(const uint8_t *file, size_t length, uint32_t *records, uint32_t *fault);
+
+static inline void read_schedules(schedule_reader *read)
+{
+    for (const schedule *s = schedules; s < schedules + FILES; s++) {
+        uint32_t records, fault;
+        kept += read(s->octets, s->length, &records, &fault);
+        kept += records + fault;
+    }
+}
+
+static void schedule_ours(const stamps *r) { (void)r; read_schedules(stamp_schedule_read); }
+static void schedule_plain(const stamps *r) { (void)r; read_schedules(plain_schedule_read); }
+
+typedef uint32_t record_reader(const uint8_t *file, size_t length, uint32_t place, int64_t parts[5]);
+
+static inline void read_last_records(record_reader *read)
+{
+    for (const schedule *s = schedules; s < schedules + FILES; s++) {
+        int64_t parts[5] = {0};
+        kept += read(s->octets, s->length, STAMP_MAX_RECORDS, parts);
+        kept += (uint64_t)parts[2];
+    }
+}
+
+static void record_ours(const stamps *r) { (void)r; read_last_records(stamp_schedule_record); }
+static void record_plain(const stamps *r) { (void)r; read_last_records(plain_schedule_record); }
+
+static bool reads_all(schedule_reader *read, const schedule *s)
+{
+    uint32_t records, fault;
+    return read(s->octets, s->length, &records, &fault) == STAMP_ACCEPTED && records == STAMP_MAX_RECORDS && fault == 0;
+}
+
+/* The whole file, and the record at each place. */
+static bool schedule_same(const stamps *r, int i)
+{
+    const schedule *s = &schedules[i / STAMP_MAX_RECORDS];
+    const uint32_t place = 1 + (uint32_t)i % STAMP_MAX_RECORDS;
+    int64_t parts[2][5] = {{0}};
+    const uint32_t ours = stamp_schedule_record(s->octets, s->length, place, parts[0]);
+    const uint32_t plain = plain_schedule_record(s->octets, s->length, place, parts[1]);
+    (void)r;
+    if (place == 1 && !(reads_all(stamp_schedule_read, s) && reads_all(plain_schedule_read, s)))
+        return false;
+    return ours == STAMP_ACCEPTED && plain == STAMP_ACCEPTED && memcmp(parts[0], parts[1], sizeof parts[0]) == 0;
+}
+
+static const work schedule_work = {RECORDS, fill_schedules, schedule_ours, schedule_plain, schedule_same};
+static const work record_work = {RECORDS, fill_schedules, record_ours, record_plain, schedule_same};
 
 /* ---- turns ---- */
 
@@ -163,11 +216,11 @@ static double seconds_now(void)
     return (double)now.tv_sec + (double)now.tv_nsec * 1e-9;
 }
 
-static double nanoseconds(void (*pass)(const stamps *), const stamps *r)
+static double nanoseconds(void (*pass)(const stamps *), const stamps *r, int count)
 {
     const double start = seconds_now();
     pass(r);
-    return (seconds_now() - start) * 1e9 / VALUES;
+    return (seconds_now() - start) * 1e9 / count;
 }
 
 static int by_size(const void *a, const void *b)
@@ -185,7 +238,7 @@ static double median(double times[TURNS])
 /* A measure of two programs that differ would say nothing, nor would one of refusals. */
 static void compare(const char *name, const work *w, const stamps *r)
 {
-    for (int i = 0; i < VALUES; i++)
+    for (int i = 0; i < w->count; i++)
         if (!w->same(r, i)) {
             fprintf(stderr, "measure: %s: ours and plain differ, or refuse\n", name);
             exit(1);
@@ -197,11 +250,11 @@ static void report(const char *name, work w, stamps r)
     double ours[TURNS], plain[TURNS];
     w.fill(&r);
     compare(name, &w, &r);
-    nanoseconds(w.ours, &r);
-    nanoseconds(w.plain, &r);
+    nanoseconds(w.ours, &r, w.count);
+    nanoseconds(w.plain, &r, w.count);
     for (int i = 0; i < TURNS; i++) {
-        ours[i] = nanoseconds(w.ours, &r);
-        plain[i] = nanoseconds(w.plain, &r);
+        ours[i] = nanoseconds(w.ours, &r, w.count);
+        plain[i] = nanoseconds(w.plain, &r, w.count);
     }
     printf("%s\t%.3f\t%.3f\n", name, median(ours), median(plain));
 }
@@ -238,10 +291,20 @@ static void report_without_fraction(uint32_t kind)
     report(name, reading, r);
 }
 
+/* By themselves: files with stamps of one form each. */
+static void report_schedules(uint32_t form)
+{
+    const stamps r = {STAMP_DATETIMETZ, form, STAMP_DEFAULT_DIGITS};
+    char name[80];
+    snprintf(name, sizeof name, "schedule, 1,000 records, %s (ns a record)", stamp_form_name(form));
+    report(name, schedule_work, r);
+}
+
 int main(void)
 {
+    const stamps text = {STAMP_DATETIMETZ, STAMP_TEXT, STAMP_DEFAULT_DIGITS};
     const stamps any = {STAMP_DATE, STAMP_TEXT, STAMP_DEFAULT_DIGITS};
-    printf("compiler\t%s, %s\nvalues\t%d\nturns\t%d\n", __VERSION__, LEVEL, VALUES, TURNS);
+    printf("compiler\t%s, %s\nvalues\t%d\nfiles\t%d\nturns\t%d\n", __VERSION__, LEVEL, VALUES, FILES, TURNS);
     for (uint32_t form = 0; form < STAMP_FORMS; form++)
         for (uint32_t kind = 0; kind < STAMP_READERS; kind++)
             report_stamps(kind, form);
@@ -254,5 +317,8 @@ int main(void)
     report("difference of two instants", difference_work, any);
     report("DatetimeTz of an instant at an offset", at_work, any);
     report("restate a DatetimeTz at another offset", restate_work, any);
+    for (uint32_t form = 0; form < STAMP_FORMS; form++)
+        report_schedules(form);
+    report("schedule, the record at place 1,000, text (ns a record)", record_work, text);
     return kept == 0;
 }

@@ -1,4 +1,5 @@
-/* Reads and writes the contents octets of date-and-time stamps, and reckons with their UTC instants: the plain C version.
+/* Reads and writes the contents octets of date-and-time stamps, reckons with their UTC instants, and reads schedule files
+ * of them: the plain C version.
  *
  * C99 with the builtins and attributes that gcc and clang share. No allocation, no state, no library call but
  * memcpy of a fixed 2, 4 or 8 octets, which compiles to one load or store.
@@ -13,7 +14,8 @@
 #include <stddef.h>
 #include <stdint.h>
 
-/* Refusal numbers; 0 is none. Writers test 1 to 4 in this order, readers 5 to 8, the calls on instants 2 and 9. */
+/* Refusal numbers; 0 is none. Writers test 1 to 4 in this order, readers 5 to 8, the calls on instants 2 and 9, those on
+ * schedules 13, then for each record 14, 5 to 8, 15. */
 enum {
     PLAIN_ACCEPTED = 0,
     PLAIN_BAD_DIGITS = 1,       /* digits above 6 */
@@ -24,7 +26,10 @@ enum {
     PLAIN_BAD_OCTET = 6,        /* a wrong digit, sign or separator; reserved bits that are not zero */
     PLAIN_NOT_SHORTEST = 7,     /* redundant octets, a zero offset that should have been left out, -00:00 */
     PLAIN_OUT_OF_RANGE = 8,     /* a field read is out of its range */
-    PLAIN_BAD_RESULT = 9        /* no stamp has such an instant, or the local reading is outside the years 1 to 9999 */
+    PLAIN_BAD_RESULT = 9,       /* no stamp has such an instant, or the local reading is outside the years 1 to 9999 */
+    PLAIN_BAD_HEADER = 13,      /* too many records, or regions that do not follow one another and end the file */
+    PLAIN_BAD_RECORD = 14,      /* a channel or a correction out of its range, or a stamp not in its place */
+    PLAIN_BAD_ORDER = 15        /* an instant before that of the record before */
 };
 
 /* Places in the parts of an accepted read. */
@@ -58,5 +63,14 @@ uint32_t plain_difference(int64_t a, int64_t b, int64_t *difference);
 uint32_t plain_at(int64_t instant, int32_t offset, int64_t parts[5]);
 uint32_t plain_restate(uint32_t year, uint32_t month, uint32_t day, uint64_t micros, int32_t offset, int32_t to,
                        int64_t parts[5]);
+
+/* Schedule files: a header of 16 octets, records of 12, and their stamps, DatetimeTz each; all is read, from the front.
+ * The refusal number. *records is their number, and 0 after a refusal; *fault is the place of the refused record, from
+ * one, 0 for the header, and 0 where nothing is refused. */
+uint32_t plain_schedule_read(const uint8_t *file, size_t length, uint32_t *records, uint32_t *fault);
+
+/* The record at a place, from one. The refusal number: the file's, then 2 for no such place. Parts: channel, correction,
+ * instant, start of the stamp within the file, its length; as lent after a refusal. */
+uint32_t plain_schedule_record(const uint8_t *file, size_t length, uint32_t place, int64_t parts[5]);
 
 #endif

@@ -9,8 +9,8 @@
  * loops, and no octet outside the lent ones is loaded or stored: where a field's length varies, two fixed stores
  * (or loads) that overlap take the place of a loop.
  *
- * Conversion to a signed type of a number that it can't hold is left to the implementation by C99; gcc and clang
- * both wrap, and the sign extensions below use that.
+ * Conversion to a signed type of a number that it can't hold is left to the implementation by C99, and so is a shift
+ * of a negative number to the right; gcc and clang both wrap, and shift the sign in. Sign extensions use that.
  */
 #ifndef PLAIN_COMMON_H
 #define PLAIN_COMMON_H
@@ -24,6 +24,8 @@
 #endif
 
 #define INLINE static inline __attribute__((always_inline))
+#define OUTLINE static __attribute__((noinline))    /* so that others save no registers for it */
+#define LIKELY(condition) __builtin_expect(condition, true)
 
 #define LAST_YEAR 9999u
 #define LAST_DAY_NUMBER 3652058u
@@ -31,6 +33,8 @@
 #define MOST_OFFSET 1439u                           /* minutes, to either side */
 #define MOST_DIGITS 6u
 #define MICROS_A_SECOND 1000000u
+#define MICROS_A_MINUTE 60000000
+#define MINUTES_A_DAY 1440u
 #define MILLIS_A_DAY 86400000
 #define MICROS_A_DAY UINT64_C(86400000000)          /* as a time: 24:00 */
 #define LEAST_T (-INT64_C(63713433600000))          /* 0001-01-01T00:00 in milliseconds from 2020 */
@@ -58,6 +62,7 @@ INLINE void store32(uint8_t *octets, uint32_t word) { memcpy(octets, &word, size
 INLINE void store16(uint8_t *octets, uint16_t word) { memcpy(octets, &word, sizeof word); }
 
 /* Big-endian. */
+INLINE uint64_t load64_big(const uint8_t *octets) { return __builtin_bswap64(load64(octets)); }
 INLINE uint32_t load32_big(const uint8_t *octets) { return __builtin_bswap32(load32(octets)); }
 INLINE uint16_t load16_big(const uint8_t *octets) { return __builtin_bswap16(load16(octets)); }
 
@@ -86,6 +91,21 @@ INLINE bool is_day(uint32_t year, uint32_t month, uint32_t day)
     if (year - 1 >= LAST_YEAR || month - 1 >= 12)
         return false;
     return day - 1 < 28 || day - 1 < month_length(year, month);
+}
+
+/* The days that a month has in every year. */
+INLINE uint32_t least_month_length(uint32_t month)
+{
+    static const uint8_t lengths[] = { 0, 31, 28, 31, 30, 31, 30, 31, 31, 30, 31, 30, 31 };
+
+    return lengths[month];
+}
+
+/* A day, and not 29 February. Days above 28 come so often that is_day, which has them go another way, is guessed wrong.
+ * LIKELY keeps the tests apart, as x86-64 would join them, by more instructions. */
+INLINE bool is_usual_day(uint32_t year, uint32_t month, uint32_t day)
+{
+    return LIKELY(year - 1 < LAST_YEAR) && LIKELY(month - 1 < 12) && LIKELY(day - 1 < least_month_length(month));
 }
 
 /* For a day that exists. Years run from March, so that the leap day is their last. The century is
@@ -121,6 +141,12 @@ INLINE void set_date(struct stamp *stamp, uint32_t number)
 INLINE bool is_offset(int32_t offset)
 {
     return (uint32_t)offset + MOST_OFFSET <= 2 * MOST_OFFSET;
+}
+
+/* In microseconds; unsigned, as sums with it may wrap. */
+INLINE uint64_t ahead_of_utc(int32_t offset)
+{
+    return (uint64_t)((int64_t)offset * MICROS_A_MINUTE);
 }
 
 /* ---- digits in words --------------------------------------------------------------------------------------- */

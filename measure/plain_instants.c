@@ -2,17 +2,11 @@
  *
  * Sums are unsigned and may wrap: so one comparison tells both ends of a range, and a sum that wrapped is beyond it.
  *
- * The usual way through a call is one line of code without a jump. LIKELY keeps its tests apart, as x86-64 would join
- * them, by more instructions. What is seldom is a function of its own, so that the usual way saves no registers for it. */
+ * The usual way through a call is one line of code without a jump; what is seldom is a function of its own. */
 #include "plain_common.h"
 
 #define LEAST_INSTANT (-INT64_C(86340000000))           /* 0001-01-01T00:00+23:59 */
 #define MOST_INSTANT INT64_C(315537983940000000)        /* 9999-12-31T24:00-23:59 */
-#define MICROS_A_MINUTE 60000000
-#define MINUTES_A_DAY 1440u
-
-#define LIKELY(condition) __builtin_expect(condition, true)
-#define SELDOM static __attribute__((noinline))
 
 /* ---- what is handed in ------------------------------------------------------------------------------------- */
 
@@ -26,28 +20,13 @@ INLINE bool is_stamp(uint32_t year, uint32_t month, uint32_t day, uint64_t micro
     return is_day(year, month, day) && micros <= MICROS_A_DAY && is_offset(offset);
 }
 
-/* The days that a month has in every year. */
-INLINE uint32_t least_month_length(uint32_t month)
-{
-    static const uint8_t lengths[] = { 0, 31, 28, 31, 30, 31, 30, 31, 31, 30, 31, 30, 31 };
-
-    return lengths[month];
-}
-
-/* A stamp, and not of 29 February. Days above 28 come so often that is_day, which has them go another way, is guessed
- * wrong. */
+/* A stamp, and not of 29 February. */
 INLINE bool is_usual_stamp(uint32_t year, uint32_t month, uint32_t day, uint64_t micros, int32_t offset)
 {
-    return LIKELY(year - 1 < LAST_YEAR) && LIKELY(month - 1 < 12) && LIKELY(day - 1 < least_month_length(month))
-        && LIKELY(micros <= MICROS_A_DAY) && LIKELY(is_offset(offset));
+    return is_usual_day(year, month, day) && LIKELY(micros <= MICROS_A_DAY) && LIKELY(is_offset(offset));
 }
 
 /* ---- microseconds ------------------------------------------------------------------------------------------ */
-
-INLINE uint64_t ahead_of_utc(int32_t offset)
-{
-    return (uint64_t)((int64_t)offset * MICROS_A_MINUTE);
-}
 
 /* For a stamp. */
 INLINE uint64_t instant_of(uint32_t year, uint32_t month, uint32_t day, uint64_t micros, int32_t offset)
@@ -106,8 +85,8 @@ INLINE uint32_t give_at(uint64_t instant, int32_t offset, int64_t parts[5])
 
 /* ---- the calls --------------------------------------------------------------------------------------------- */
 
-SELDOM uint32_t unusual_instant(uint32_t year, uint32_t month, uint32_t day, uint64_t micros, int32_t offset,
-                                int64_t *instant)
+OUTLINE uint32_t unusual_instant(uint32_t year, uint32_t month, uint32_t day, uint64_t micros, int32_t offset,
+                                 int64_t *instant)
 {
     if (!is_stamp(year, month, day, micros, offset))
         return PLAIN_BAD_VALUE;
@@ -150,8 +129,8 @@ uint32_t plain_at(int64_t instant, int32_t offset, int64_t parts[5])
     return give_at((uint64_t)instant, offset, parts);
 }
 
-SELDOM uint32_t unusual_restate(uint32_t year, uint32_t month, uint32_t day, uint64_t micros, int32_t offset,
-                                int32_t to, int64_t parts[5])
+OUTLINE uint32_t unusual_restate(uint32_t year, uint32_t month, uint32_t day, uint64_t micros, int32_t offset,
+                                 int32_t to, int64_t parts[5])
 {
     if (!is_stamp(year, month, day, micros, offset))
         return PLAIN_BAD_VALUE;
@@ -159,8 +138,8 @@ SELDOM uint32_t unusual_restate(uint32_t year, uint32_t month, uint32_t day, uin
 }
 
 /* `day` lies a day or two before the month, or behind the days that it has in every year. */
-SELDOM uint32_t restate_beyond(uint32_t year, uint32_t month, uint32_t day, uint64_t micros, int32_t to,
-                               int64_t parts[5])
+OUTLINE uint32_t restate_beyond(uint32_t year, uint32_t month, uint32_t day, uint64_t micros, int32_t to,
+                                int64_t parts[5])
 {
     const uint32_t number = day_number(year, month, day);
 

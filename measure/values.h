@@ -9,6 +9,7 @@
 
 enum { VALUES = 4096 };
 enum { LAST_NUMBER = 3652058, LAST_COMPACT_YEAR = 6428 };
+enum { FILES = 4, RECORDS = FILES * STAMP_MAX_RECORDS };    /* as many records in all as there are values, nearly */
 
 /* A kind to write or read, in a form. */
 typedef struct {
@@ -32,8 +33,15 @@ typedef struct {
     int32_t to;                         /* an offset to restate the value at */
 } moment;
 
+/* A schedule file, of as many records as there may be. */
+typedef struct {
+    uint8_t octets[STAMP_LONGEST_SCHEDULE];
+    size_t length;
+} schedule;
+
 static sample samples[VALUES];
 static moment moments[VALUES];
+static schedule schedules[FILES];
 
 /* Fixed seed: every process measures the same values. */
 static uint64_t chance(uint64_t below)
@@ -99,6 +107,60 @@ static void fill_moments(const stamps *r)
         m->to = chance_offset();
         expect_accepted(stamp_value_at(m->instant, chance_offset(), &m->value));
     }
+}
+
+static void put_big(uint8_t *octets, int count, uint32_t number)
+{
+    while (count-- > 0) {
+        octets[count] = (uint8_t)number;
+        number >>= 8;
+    }
+}
+
+static void put_record(uint8_t *octets, size_t start, size_t length)
+{
+    put_big(octets, 4, (uint32_t)start);
+    put_big(octets + 4, 2, (uint32_t)length);
+    put_big(octets + 6, 2, 1 + (uint32_t)chance(STAMP_MAX_CHANNEL));
+    put_big(octets + 8, 4, (uint32_t)chance(2 * STAMP_MAX_CORRECTION + 1) - STAMP_MAX_CORRECTION);
+}
+
+/* The next stamp's octets, and how many. */
+static size_t put_stamp(uint8_t *octets, int64_t instant, const stamps *r)
+{
+    stamp_value value;
+    size_t length;
+    expect_accepted(stamp_value_at(instant, chance_offset(), &value));
+    expect_accepted(stamp_encode(&value, settings_for(r), octets, STAMP_LONGEST_IMAGE, &length));
+    return length;
+}
+
+/* From a day in 2020 to 2029 on, some six weeks: the records are up to two hours apart, and of sites at any offset. */
+static void fill_schedule(schedule *s, const stamps *r)
+{
+    const uint64_t day = 50 * 365 + 13 + chance(10 * 365);
+    int64_t instant = STAMP_UNIX_EPOCH + (int64_t)(day * STAMP_END_OF_DAY);
+    uint8_t *record = s->octets + STAMP_SCHEDULE_HEADER;
+    uint8_t *const stamps_start = record + STAMP_SCHEDULE_RECORD * STAMP_MAX_RECORDS;
+    size_t end = 0;
+    for (; record != stamps_start; record += STAMP_SCHEDULE_RECORD) {
+        size_t length;
+        instant += (int64_t)chance(STAMP_END_OF_DAY / 12);
+        length = put_stamp(stamps_start + end, instant, r);
+        put_record(record, end, length);
+        end += length;
+    }
+    put_big(s->octets, 4, STAMP_MAX_RECORDS);
+    put_big(s->octets + 4, 4, STAMP_SCHEDULE_HEADER);
+    put_big(s->octets + 8, 4, (uint32_t)end);
+    put_big(s->octets + 12, 4, (uint32_t)(stamps_start - s->octets));
+    s->length = (size_t)(stamps_start - s->octets) + end;
+}
+
+static void fill_schedules(const stamps *r)
+{
+    for (schedule *s = schedules; s < schedules + FILES; s++)
+        fill_schedule(s, r);
 }
 
 #endif

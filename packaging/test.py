@@ -18,7 +18,7 @@ ROOT = Path(__file__).resolve().parent.parent
 sys.path.insert(0, str(ROOT / 'tool' / 'tests'))
 from transcripts import README, readme_cases, tried  # noqa: E402
 
-RELEASE = '1.2'
+RELEASE = '1.3'
 SHARED = f'libstamp.so.{RELEASE}'
 # What is installed, each file with its mode, each link with where it leads.
 INSTALLED = {'bin/stamp': '755', 'include/stamp.h': '644', 'lib/libstamp.a': '644', 'lib/libstamp.so': 'libstamp.so.1', 'lib/libstamp.so.1': SHARED,
@@ -134,9 +134,10 @@ def try_readme(scratch, prefix):
 
 
 def try_printed():
-    """The README prints the examples as they are; of the sites', the calls that it is about, and of Rust's, the block of the functions."""
+    """The README prints the examples as they are; of the sites' and the schedule's, the calls that it is about, and of Rust's, the block of the functions."""
     readme = Path(README).read_text()
-    for name, start, end in (('roundtrip.c', '', None), ('sites.c', '    accepted(stamp_decode', '    print_stamp("first'), ('as_text.py', '', None),
+    for name, start, end in (('roundtrip.c', '', None), ('sites.c', '    accepted(stamp_decode', '    print_stamp("first'),
+                             ('schedule.c', '    uint32_t refusal = stamp_schedule', '}\n\nint main'), ('as_text.py', '', None),
                              ('as_text.rs', '#[link', 'fn main')):
         text = (ROOT / 'examples' / name).read_text()
         text = textwrap.dedent(text[text.index(start):text.index(end) if end else None]).strip()

@@ -1,5 +1,5 @@
 #!/usr/bin/env python3
-"""Writes the cases and their answers: cases.py writing|reading|instants OUTDIR
+"""Writes the cases and their answers: cases.py writing|reading|instants|schedule OUTDIR
 
 Two text files, `cases` and `answers`; line i of one belongs to line i of the
 other. Fields are separated by one space, every line ends with a newline.
@@ -21,11 +21,20 @@ Instants (02, request 2); a refused one has only its number as answer:
     S year month day micros offset to (a stamp restated at an offset)
         answer: 0 year month day micros offset
 
-Years, months, days, kinds, versions and digits are unsigned numbers of 32 bits,
-the micros of a day unsigned of 64, offsets signed of 32, instants and micros that
-are added signed of 64. Each lent octet is 5A before the call. Afterwards a table
-is printed: how many cases of each kind, or of each letter of instants, have each
-answer number.
+Schedule files (02, request 4):
+
+    F hex                             (full reading; - for zero octets)
+        answer: 0 records             or
+                number fault          (its place from one, 0 for the header)
+    P place hex                       (the record at a place)
+        answer: number                (after a refusal), or
+                0 channel correction instant start length
+
+Years, months, days, kinds, versions, digits and places are unsigned numbers of 32
+bits, the micros of a day unsigned of 64, offsets signed of 32, instants and micros
+that are added signed of 64. Each lent octet is 5A before the call. Afterwards a
+table is printed: how many cases of each kind, or of each letter of instants and
+schedules, have each answer number.
 """
 
 import os
@@ -68,6 +77,14 @@ def instant_lines():
         yield letter + " " + fields(numbers), answer_line
 
 
+def schedule_lines():
+    from schedule_cases import CALLS, schedule_cases
+    for letter, file, *place in schedule_cases():
+        answer = CALLS[letter](file, *place)
+        answer_line = fields(answer) if isinstance(answer, tuple) else str(answer)
+        yield fields([letter, *place, hex_or_dash(file)]), answer_line
+
+
 def row_of(case):
     """The kind of a W or R, the letter of another."""
     letter, first = case.split()[:2]
@@ -91,9 +108,9 @@ def print_table(lines):
 
 def main():
     makers = {"writing": writing_lines, "reading": reading_lines,
-              "instants": instant_lines}
+              "instants": instant_lines, "schedule": schedule_lines}
     if len(sys.argv) != 3 or sys.argv[1] not in makers:
-        sys.exit("usage: cases.py writing|reading|instants OUTDIR")
+        sys.exit("usage: cases.py writing|reading|instants|schedule OUTDIR")
     lines = list(makers[sys.argv[1]]())
     os.makedirs(sys.argv[2], exist_ok=True)
     for column, name in enumerate(("cases", "answers")):

@@ -2,8 +2,8 @@
 
 A writing example: (kind, year, month, day, micros, offset, binary, version,
 digits) and (refusal, octets in hex). A reading example: kind, octets, answer.
-An example of instants: letter of the call, what is handed in, answer. The
-answers here are copied from the documents or worked out by hand.
+An example of instants or schedules: letter of the call, what is handed in,
+answer. The answers here are copied from the documents or worked out by hand.
 """
 
 from common import *
@@ -322,4 +322,93 @@ REQUEST_2 = (
     ("S", (1, 1, 1, 0, 1440, 0), 2),
     ("A", (LAST + 1, 1), 2),
     ("T", (0, -1440), 2),
+)
+
+# 02, request 4 (R4.1 to R4.6): the letter of the call in cases.py, what is
+# handed in, and the answer. The sentences are the request's. The files are put
+# down octet by octet: the four numbers of the header, the records (stamp start,
+# stamp length, channel, correction), the stamps.
+octets = bytes.fromhex
+OF_M = OF_2020 - 1_000 + 9 * HALF_HOUR   # bench line M: 1 ms before 2020, -270
+
+NO_RECORDS = octets("00000000 00000010 00000000 00000010")
+ONE_RECORD = octets("00000001 00000010 00000001 0000001C"
+                    "00000000 0001 0010 000F4240" "00")
+TWO_RECORDS = octets("00000002 00000010 00000008 00000028"
+                     "00000000 0001 0010 000F4240"
+                     "00000001 0007 0001 FFF0BDC0" "00" "FEF2FFFFFFFFFF")
+# The same with its two stamps the other way round.
+TWO_TURNED = octets("00000002 00000010 00000008 00000028"
+                    "00000000 0007 0010 000F4240"
+                    "00000007 0001 0001 FFF0BDC0" "FEF2FFFFFFFFFF" "00")
+# 2019-12-31T24:00, extended, then 2020-01-01T00:00, as text.
+EQUAL_INSTANTS = (octets("00000002 00000010 00000023 00000028"
+                         "00000000 000A 0001 00000000"
+                         "0000000A 0019 0001 FFFFFFFF"
+                         "90000B408F" "141DD76000")
+                  + b"2020-01-01T00:00:00+00:00")
+
+
+def one_record(record, stamp):
+    """A file of one record; its octets in hex."""
+    return (octets("00000001 00000010") + len(stamp).to_bytes(4, "big")
+            + octets("0000001C" + record) + stamp)
+
+
+REQUEST_4 = (
+    # "full reading answers their number"
+    ("F", (NO_RECORDS,), (0, 0)),
+    ("F", (ONE_RECORD,), (0, 1)),
+    ("F", (TWO_RECORDS,), (0, 2)),
+    ("P", (ONE_RECORD, 1), (0, 16, 1_000_000, OF_2020, 28, 1)),
+    ("P", (TWO_RECORDS, 1), (0, 16, 1_000_000, OF_2020, 40, 1)),
+    ("P", (TWO_RECORDS, 2), (0, 1, -1_000_000, OF_M, 41, 7)),
+    # A place that the file hasn't; the file's own refusal comes first.
+    ("P", (TWO_RECORDS, 0), 2),
+    ("P", (TWO_RECORDS, 3), 2),
+    ("P", (NO_RECORDS, 1), 2),
+    ("P", (TWO_TURNED, 3), 15),
+    # 13: below 16 octets, the counts, the starts, the length (R4.4).
+    ("F", (b"",), (13, 0)),
+    ("F", (NO_RECORDS[:15],), (13, 0)),
+    ("F", (NO_RECORDS + b"\x00",), (13, 0)),
+    ("F", (TWO_RECORDS[:-1],), (13, 0)),
+    ("F", (octets("80000000 00000010 00000000 00000010"),), (13, 0)),
+    ("F", (octets("00000000 00000011 00000000 00000011 00"),), (13, 0)),
+    ("F", (octets("00000000 00000010 00000000 00000011 00"),), (13, 0)),
+    # "with no records there are no stamp octets (else 13)"
+    ("F", (octets("00000000 00000010 00000001 00000010 00"),), (13, 0)),
+    # 2 to the 30 records are 0 octets once 32 bits wrap.
+    ("F", (octets("40000000 00000010 00000000 00000010"),), (13, 0)),
+    # 14: channel 0 and 17, the correction beyond 1,000,000 either way.
+    ("F", (one_record("00000000 0001 0000 00000000", b"\x00"),), (14, 1)),
+    ("F", (one_record("00000000 0001 0011 00000000", b"\x00"),), (14, 1)),
+    ("F", (one_record("00000000 0001 0001 000F4241", b"\x00"),), (14, 1)),
+    ("F", (one_record("00000000 0001 0001 FFF0BDBF", b"\x00"),), (14, 1)),
+    # 14: not at 0; past the region; not to its end (R4.1).
+    ("F", (one_record("00000001 0001 0001 00000000", b"\x00\x00"),), (14, 1)),
+    ("F", (one_record("00000000 0002 0001 00000000", b"\x00"),), (14, 1)),
+    ("F", (one_record("00000000 0001 0001 00000000", b"\x00\x00"),), (14, 1)),
+    # "then 5 to 8 for a stamp"; length alone is 5 (R4.2).
+    ("F", (one_record("00000000 0000 0001 00000000", b""),), (5, 1)),
+    ("F", (one_record("00000000 0021 0001 00000000", b"0" * 33),), (5, 1)),
+    ("F", (one_record("00000000 0019 0001 00000000",
+                      b"2020-01-01t00:00:00+00:00"),), (6, 1)),
+    ("F", (one_record("00000000 0002 0001 00000000", b"\x00\x01"),), (7, 1)),
+    ("F", (one_record("00000000 0019 0001 00000000",
+                      b"2020-13-01T00:00:00+00:00"),), (8, 1)),
+    # Strict: a Datetime is no DatetimeTz (R4.5).
+    ("F", (one_record("00000000 0013 0001 00000000",
+                      b"2020-01-01T00:00:00"),), (5, 1)),
+    ("F", (one_record("00000000 000A 0001 00000000",
+                      octets("80000B40900000000000")),), (5, 1)),
+    # "15 order": by instants, not by local readings; equal ones are good.
+    ("F", (TWO_TURNED,), (15, 2)),
+    ("F", (EQUAL_INSTANTS,), (0, 2)),
+    ("P", (EQUAL_INSTANTS, 1), (0, 1, 0, OF_2020, 40, 10)),
+    ("P", (EQUAL_INSTANTS, 2), (0, 1, -1, OF_2020, 50, 25)),
+    # "Header first, then each record in turn", and at one in that order (R4.3).
+    ("F", (one_record("00000000 0002 0000 00000000", b"\x00\x01"),), (14, 1)),
+    ("F", (one_record("00000000 0002 0001 00000000", b"\x00\x01") + b"\x00",),
+     (13, 0)),
 )

@@ -1,6 +1,6 @@
-/* fast.h - the second program made fast: the rules of writing.py, reading.py, instants.py and common.py in C, for
- * comparing over many millions of inputs. Same parameters and same answers as stamp_write, stamp_read and the calls on
- * instants; include/stamp.h says what each part means. Nothing of the library is used here. */
+/* fast.h - the second program made fast: the rules of writing.py, reading.py, instants.py, schedule.py and common.py in
+ * C, for comparing over many millions of inputs. Same parameters and same answers as stamp_write, stamp_read and the
+ * calls on instants and schedules; include/stamp.h says what each part means. Nothing of the library is used here. */
 #ifndef FAST_H
 #define FAST_H
 
@@ -23,5 +23,9 @@ uint32_t fast_at(int64_t instant, int32_t offset, int64_t parts[5]);
 
 uint32_t fast_restate(uint32_t year, uint32_t month, uint32_t day, uint64_t micros, int32_t offset, int32_t to,
                       int64_t parts[5]);
+
+uint32_t fast_schedule_read(const uint8_t *file, size_t length, uint32_t *records, uint32_t *fault);
+
+uint32_t fast_schedule_record(const uint8_t *file, size_t length, uint32_t place, int64_t parts[5]);
 
 #endif

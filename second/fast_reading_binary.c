@@ -43,7 +43,7 @@ static void date_of_day_number(int64_t number, answer *into)
 /* Compact */
 
 /* Big-endian two's complement of any length from 1 on (01 Compact). */
-static int64_t signed_number(const uint8_t *octets, size_t length)
+int64_t signed_number(const uint8_t *octets, size_t length)
 {
     int64_t value = octets[0] >= 128 ? octets[0] - 256 : octets[0];
     for (size_t i = 1; i < length; i++)
@@ -128,7 +128,7 @@ uint32_t read_compact(uint32_t kind, const uint8_t *octets, size_t length, answe
 /* Extended */
 
 /* Big-endian, without a sign (01 Extended). */
-static int64_t unsigned_number(const uint8_t *octets, size_t length)
+int64_t unsigned_number(const uint8_t *octets, size_t length)
 {
     int64_t value = 0;
     for (size_t i = 0; i < length; i++)

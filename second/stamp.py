@@ -1,6 +1,6 @@
 #!/usr/bin/env python3
-"""Writes and reads the contents octets of date-and-time stamps, and reckons with
-their UTC instants.
+"""Writes and reads the contents octets of date-and-time stamps, reckons with their
+UTC instants, and reads schedule files.
 
 Kinds:  0 Date, 1 DateTz, 2 Time, 3 TimeTz, 4 Datetime, 5 DatetimeTz;
         for reading also 6, 7, 8: Date, Time, Datetime, each "or its Tz".
@@ -18,9 +18,15 @@ Forms:  0 text, 1 compact, 2 extended.
     difference(a, b)                            -> refusal 2, or (0, a less b)
     at(instant, offset), restate(year, month, day, micros, offset, to)
         -> refusal 2, 9, or (0, year, month, day, micros, offset)
+    schedule_read(file)
+        -> (0, number of records), or (refusal 13, 14, 5 to 8, 15, its place)
+    schedule_record(file, place)
+        -> refusal 13, 14, 5 to 8, 15, then 2, or
+           (0, channel, correction, instant, start of the stamp, its length)
 
 Writing, reading and instants are separate procedures in files of their own. They
 share only the numbers of document 01, the leap rule and the lengths of the months.
+Schedules use reading and instants.
 """
 
 import sys
@@ -28,6 +34,7 @@ import sys
 from common import *
 from instants import add, at, difference, instant, restate
 from reading import read
+from schedule import schedule_read, schedule_record
 from writing import write, write_into
 
 

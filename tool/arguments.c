@@ -6,6 +6,7 @@
 #include "numbers.h"
 #include "records.h"
 #include "say.h"
+#include "schedules.h"
 
 const char *const reader_words[STAMP_READERS] = {
     "date", "datetz", "time", "timetz", "datetime", "datetimetz",
@@ -20,7 +21,7 @@ static bool wrong(const char *what, const char *word)
 
 void print_help(void)
 {
-    uint32_t number;
+#define PRINT_REFUSAL(name, number, sentence) printf("%3d %s\n", number, sentence);
     fputs("usage: stamp read KIND [HEX..] [--raw] [--json]\n"
           "       stamp write KIND [TEXT..] [--binary] [--version N] [--digits N] [--raw | --json]\n"
           "       stamp explain [HEX..] [--raw] [--json]\n"
@@ -28,6 +29,9 @@ void print_help(void)
           "       stamp restate [STAMP..] --to OFFSET [--raw] [--json]\n"
           "       stamp difference [A B ..] [--json]\n"
           "       stamp add [STAMP..] MICROS [--raw] [--json]\n"
+          "       stamp schedule check [FILE..] [--json]\n"
+          "       stamp schedule list [FILE] [--json]\n"
+          "       stamp schedule make\n"
           "       stamp -h | -V\n"
           "Without any stamp, or for a -, the stamps come from standard input, one a line.\n"
           "--raw: write prints the octets of its stamp and nothing else,\n"
@@ -39,10 +43,12 @@ void print_help(void)
           "STAMP, A, B: a datetimetz, as HEX of any form or as TEXT; difference is A less B\n"
           "OFFSET: from UTC, +hh:mm or -hh:mm, at most 23:59\n"
           "MICROS: how many microseconds later, a signed number of 64 bits\n"
+          "FILE: a schedule file; standard input without any, or for a -. make takes lines from standard input,\n"
+          "      each a STAMP (without blanks), a channel and a correction, and prints the octets of their schedule\n"
           "Exit status: 0 accepted, 1 refused, 2 usage, or input or output failed.\n"
           "Refusals:\n", stdout);
-    for (number = 1; number <= STAMP_LAST_REFUSAL; number++)
-        printf("  %u %s\n", (unsigned)number, stamp_refusal_sentence(number));
+    STAMP_REFUSALS(PRINT_REFUSAL)
+#undef PRINT_REFUSAL
 }
 
 static bool parse_kind(const char *word, request *into)
@@ -61,22 +67,43 @@ static bool parse_kind(const char *word, request *into)
     return true;
 }
 
-static bool parse_command(const char *word, request *into)
+/* A command by its words; the second is null but for schedule's. */
+typedef struct command_words {
+    const char *first, *second;
+    command asked;
+} command_words;
+
+static bool is_word(const char *wanted, const char *word)
 {
-    static const struct { const char *word; command asked; } commands[] = {
-        {"read", COMMAND_READ}, {"write", COMMAND_WRITE}, {"explain", COMMAND_EXPLAIN},
-        {"instant", COMMAND_INSTANT}, {"restate", COMMAND_RESTATE}, {"difference", COMMAND_DIFFERENCE},
-        {"add", COMMAND_ADD},
-        {"-h", COMMAND_HELP}, {"--help", COMMAND_HELP}, {"-V", COMMAND_RELEASE}
+    return wanted == NULL || (word != NULL && strcmp(wanted, word) == 0);
+}
+
+static bool no_such_command(char **words)
+{
+    if (strcmp(words[0], "schedule") == 0)
+        return wrong("schedule check, schedule list or schedule make?", words[1]);
+    return wrong("no such command", words[0]);
+}
+
+/* The command at the words, of which the last is null; *taken is how many it has. */
+static bool parse_command(char **words, request *into, int *taken)
+{
+    static const command_words commands[] = {
+        {"read", NULL, COMMAND_READ}, {"write", NULL, COMMAND_WRITE}, {"explain", NULL, COMMAND_EXPLAIN},
+        {"instant", NULL, COMMAND_INSTANT}, {"restate", NULL, COMMAND_RESTATE}, {"difference", NULL, COMMAND_DIFFERENCE},
+        {"add", NULL, COMMAND_ADD}, {"schedule", "check", COMMAND_CHECK}, {"schedule", "list", COMMAND_LIST},
+        {"schedule", "make", COMMAND_MAKE}, {"schedule", "-h", COMMAND_HELP}, {"schedule", "--help", COMMAND_HELP},
+        {"-h", NULL, COMMAND_HELP}, {"--help", NULL, COMMAND_HELP}, {"-V", NULL, COMMAND_RELEASE}
     };
     size_t at;
     for (at = 0; at < sizeof commands / sizeof commands[0]; at++) {
-        if (strcmp(word, commands[at].word) == 0) {
+        if (is_word(commands[at].first, words[0]) && is_word(commands[at].second, words[1])) {
             into->asked = commands[at].asked;
+            *taken = commands[at].second == NULL ? 1 : 2;
             return true;
         }
     }
-    return wrong("no such command", word);
+    return no_such_command(words);
 }
 
 /* Options that write alone has. */
@@ -136,6 +163,20 @@ static bool add_standard_input(request *into)
         if (into->records[at] == standard_input)
             return wrong("standard input is named twice", standard_input);
     into->records[into->count++] = standard_input;
+    return true;
+}
+
+/* Schedule files are octets in any case, and make prints nothing else. */
+static bool schedule_fits(const request *what)
+{
+    if (what->raw)
+        return wrong("a schedule is octets as they are: there is no --raw for it", NULL);
+    if (what->asked == COMMAND_MAKE && what->json)
+        return wrong("make prints octets: there is no --json for it", NULL);
+    if (what->asked == COMMAND_MAKE && what->records[0] != standard_input)
+        return wrong("make takes its lines from standard input", what->records[0]);
+    if (what->asked != COMMAND_CHECK && what->count > 1)
+        return wrong("there is one schedule at a time to list or make", what->records[1]);
     return true;
 }
 
@@ -200,11 +241,14 @@ static bool parse_rest(char **argv, int at, request *into)
         return false;
     if (into->count == 0)
         into->records[into->count++] = standard_input;
+    if (is_of_schedules(into->asked))
+        return schedule_fits(into);
     return !into->raw || raw_fits(into);
 }
 
 bool parse_arguments(int argc, char **argv, request *into)
 {
+    int taken;
     into->kind = STAMP_DATE;
     into->settings = stamp_default_settings();
     into->has_to = false;
@@ -216,9 +260,9 @@ bool parse_arguments(int argc, char **argv, request *into)
     into->count = 0;
     if (argc < 2)
         return wrong("which command?", NULL);
-    if (!parse_command(argv[1], into))
+    if (!parse_command(argv + 1, into, &taken))
         return false;
     if (into->asked == COMMAND_HELP || into->asked == COMMAND_RELEASE)
-        return argv[2] == NULL || wrong("nothing may follow", argv[1]);
-    return parse_rest(argv, 2, into);
+        return argv[taken + 1] == NULL || wrong("nothing may follow", argv[taken]);
+    return parse_rest(argv, taken + 1, into);
 }

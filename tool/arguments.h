@@ -7,6 +7,7 @@
 typedef enum command {
     COMMAND_READ, COMMAND_WRITE, COMMAND_EXPLAIN,
     COMMAND_INSTANT, COMMAND_RESTATE, COMMAND_DIFFERENCE, COMMAND_ADD,
+    COMMAND_CHECK, COMMAND_LIST, COMMAND_MAKE,
     COMMAND_HELP, COMMAND_RELEASE
 } command;
 
@@ -19,7 +20,7 @@ typedef struct request {
     int64_t micros;             /* of add */
     bool json;
     bool raw;                   /* octets as they are: of write on standard output, of the others on standard input */
-    char **records;             /* at least one; each a record, or standard_input */
+    char **records;             /* at least one; each a record (for check and list a file), or standard_input */
     size_t count;
 } request;
 

@@ -51,24 +51,6 @@ static uint32_t make_result(const request *what, const moment *read, result *int
 
 /* ---- Parts of a line ---- */
 
-static void print_micros(FILE *to, int64_t micros)
-{
-    fprintf(to, "%lld", (long long)micros);
-}
-
-/* What a clock at UTC reads. Of an instant that a stamp has, the library refuses what is outside the years, and nothing
- * else. */
-static void print_utc(FILE *to, int64_t instant)
-{
-    stamp_value utc;
-    if (stamp_value_at(instant, 0, &utc) == STAMP_ACCEPTED) {
-        utc.kind = STAMP_DATETIME;
-        print_text(to, &utc, STAMP_MAX_DIGITS);
-    } else {
-        fputs(instant < 0 ? "before year 1" : "after year 9999", to);
-    }
-}
-
 /* Days and the time beyond them, behind the sign of the whole: -1 is -0 days and a microsecond. */
 static void print_duration(FILE *to, int64_t micros)
 {
@@ -121,14 +103,6 @@ static void print_json_accepted(FILE *to, const record *of)
     fputs(",\"refusal\":0,", to);
 }
 
-/* A string: many readers of JSON keep but 53 bits of a number, and would show another instant. */
-static void print_json_micros(FILE *to, const char *name, int64_t micros)
-{
-    fprintf(to, "\"%s\":\"", name);
-    print_micros(to, micros);
-    fputs("\",", to);
-}
-
 /* What `read` has of it, to the object's end. */
 static void print_json_read(FILE *to, const moment *read)
 {
@@ -142,13 +116,12 @@ static void print_json(FILE *to, command asked, const moment *read, const result
 {
     print_json_accepted(to, read->of);
     if (asked == COMMAND_INSTANT) {
-        print_json_micros(to, "instant", made->instant);
-        fputs("\"utc\":\"", to);
-        print_utc(to, made->instant);
-        fputs("\",", to);
+        print_json_instant(to, made->instant);
+        fputc(',', to);
     } else if (asked == COMMAND_ADD) {
         fputs("\"sum\":{", to);
         print_json_micros(to, "instant", made->instant);
+        fputc(',', to);
         print_json_value(to, &made->value, made->digits);
         fputs("},", to);
     } else {
@@ -164,7 +137,7 @@ static void print_json_difference(FILE *to, const moment *a, const moment *b, in
 {
     print_json_accepted(to, a->of);
     print_json_micros(to, "difference", micros);
-    fputs("\"duration\":\"", to);
+    fputs(",\"duration\":\"", to);
     print_duration(to, micros);
     fputs("\",\"a\":{", to);
     print_json_read(to, a);

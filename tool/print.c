@@ -1,7 +1,5 @@
 #include "print.h"
 
-#include <stdlib.h>
-
 #include "say.h"
 
 void print_hex(FILE *to, const uint8_t *octets, size_t length)
@@ -21,13 +19,13 @@ void print_octets_of(FILE *to, const record *of)
     print_hex(to, of->octets, is_shortened(of, false) ? STAMP_LONGEST_IMAGE : of->length);
 }
 
-/* The argument or line as it was given. What is not printable ASCII, and what an escape or a string's end is made of,
- * is printed by its number, so that no terminal acts upon it, every line is JSON, and the octets can be told. */
-void print_given_of(FILE *to, const record *of, bool json)
+/* What is not printable ASCII, and what an escape or a string's end is made of, is printed by its number, so that no
+ * terminal acts upon it, every line is JSON, and the octets can be told. */
+void print_escaped(FILE *to, const char *text, size_t length, bool json)
 {
-    size_t at, end = is_shortened(of, true) ? LONGEST_SHOWN : of->given_length;
-    for (at = 0; at < end; at++) {
-        unsigned char octet = (unsigned char)of->given[at];
+    size_t at;
+    for (at = 0; at < length; at++) {
+        unsigned char octet = (unsigned char)text[at];
         if (octet < ' ' || octet > '~' || octet == '\\' || (json && octet == '"'))
             fprintf(to, json ? "\\u00%02X" : "\\x%02X", (unsigned)octet);
         else
@@ -35,15 +33,17 @@ void print_given_of(FILE *to, const record *of, bool json)
     }
 }
 
+void print_given_of(FILE *to, const record *of, bool json)
+{
+    print_escaped(to, of->given, is_shortened(of, true) ? LONGEST_SHOWN : of->given_length, json);
+}
+
 void print_text(FILE *to, const stamp_value *value, uint32_t digits)
 {
     uint8_t text[STAMP_LONGEST_IMAGE];
     size_t length;
-    if (stamp_encode(value, stamp_make_settings(false, 0, digits), text, sizeof text, &length) != STAMP_ACCEPTED) {
-        /* The library is proved never to refuse what it gave. Were it otherwise, no value may be shown. */
-        fputs("stamp: the library refuses to write a value that it gave\n", stderr);
-        _Exit(EXIT_TROUBLE);
-    }
+    if (stamp_encode(value, stamp_make_settings(false, 0, digits), text, sizeof text, &length) != STAMP_ACCEPTED)
+        end_in_doubt("the library refuses to write a value that it gave");
     fwrite(text, 1, length, to);
 }
 
@@ -56,6 +56,23 @@ uint32_t digits_kept(const stamp_decoded *found)
 void print_value(FILE *to, const stamp_decoded *found)
 {
     print_text(to, &found->value, digits_kept(found));
+}
+
+void print_micros(FILE *to, int64_t micros)
+{
+    fprintf(to, "%lld", (long long)micros);
+}
+
+/* Of an instant that a stamp has, the library refuses what is outside the years, and nothing else. */
+void print_utc(FILE *to, int64_t instant)
+{
+    stamp_value utc;
+    if (stamp_value_at(instant, 0, &utc) == STAMP_ACCEPTED) {
+        utc.kind = STAMP_DATETIME;
+        print_text(to, &utc, STAMP_MAX_DIGITS);
+    } else {
+        fputs(instant < 0 ? "before year 1" : "after year 9999", to);
+    }
 }
 
 /* ---- JSON ---- */
@@ -95,6 +112,22 @@ void print_json_found(FILE *to, const stamp_decoded *found)
     else
         fputs("\"digits\":null,", to);
     print_json_value(to, &found->value, digits_kept(found));
+}
+
+/* A string: many readers of JSON keep but 53 bits of a number, and would show another instant. */
+void print_json_micros(FILE *to, const char *name, int64_t micros)
+{
+    fprintf(to, "\"%s\":\"", name);
+    print_micros(to, micros);
+    fputc('"', to);
+}
+
+void print_json_instant(FILE *to, int64_t instant)
+{
+    print_json_micros(to, "instant", instant);
+    fputs(",\"utc\":\"", to);
+    print_utc(to, instant);
+    fputc('"', to);
 }
 
 void print_json_octets(FILE *to, const uint8_t *octets, size_t length)

@@ -2,16 +2,13 @@
 
 #include <errno.h>
 #include <stdio.h>
-#include <unistd.h>
 
+#include "input.h"
 #include "say.h"
 
 char standard_input[] = "-";
 
 #define NO_DIGIT (-1)
-
-/* What comes where no octet does. */
-enum { RECORD_END = -1, INPUT_END = -2, INPUT_FAILED = -3 };
 
 source source_of(char **arguments, size_t count, notation as)
 {
@@ -62,42 +59,9 @@ static bool take_hex(record *into, int *high, int octet)
     return true;
 }
 
-/* Whether standard input was a terminal that is gone: then it ends as a file does, and only a question tells. */
-static bool is_gone(void)
-{
-    errno = 0;
-    return !isatty(STDIN_FILENO) && errno == EIO;
-}
-
-/* An octet of standard input. A failure is never taken for its end; nor is it tried again, as what comes then may follow a gap. errno
- * tells the reason. */
-static int next_of_input(void)
-{
-    int octet = getchar();
-    if (octet != EOF)
-        return octet;
-    return ferror(stdin) || is_gone() ? INPUT_FAILED : INPUT_END;
-}
-
-/* An octet of a line; both CR LF and LF end a line, and so does the end of the input. */
-static int next_of_line(void)
-{
-    int octet = next_of_input(), after;
-    if (octet == '\r') {
-        after = next_of_input();
-        if (after == '\n')
-            return RECORD_END;
-        if (after == INPUT_FAILED)
-            return INPUT_FAILED;
-        if (after != INPUT_END)
-            ungetc(after, stdin);
-    }
-    return octet == '\n' || octet == INPUT_END ? RECORD_END : octet;
-}
-
 static int next_of_argument(const char **word)
 {
-    return **word == '\0' ? RECORD_END : (unsigned char)*(*word)++;
+    return **word == '\0' ? LINE_END : (unsigned char)*(*word)++;
 }
 
 /* What passed for hex so far is text, from its start: the octets are those given, of which more is kept than there is
@@ -139,7 +103,7 @@ static bool take_raw(record *into)
 {
     int octet = 0;
     into->as = NOTATION_RAW;
-    while (into->length < RECORD_ROOM && (octet = next_of_input()) >= 0)
+    while (into->length < RECORD_ROOM && (octet = next_octet(stdin)) >= 0)
         append(into, (uint8_t)octet);
     return octet != INPUT_FAILED;
 }
@@ -151,20 +115,20 @@ static outcome failed(uint64_t line)
     return RECORD_FAILED;
 }
 
-static void start(source *from, record *into)
+static void start(uint64_t number, record *into)
 {
     into->length = 0;
     into->given_length = 0;
     into->fault = 0;
     into->argument = 0;
     into->line = 0;
-    into->number = ++from->taken;
+    into->number = number;
 }
 
 static outcome next_argument(source *from, record *into)
 {
     const char *word = from->arguments[from->done++];
-    start(from, into);
+    start(++from->taken, into);
     into->argument = from->done;
     take(from->as, word, into);
     return RECORD_TAKEN;
@@ -173,14 +137,14 @@ static outcome next_argument(source *from, record *into)
 /* The next line, or RECORD_NONE at the end of the input. */
 static outcome next_line(source *from, record *into)
 {
-    int octet = next_of_input();
+    int octet = next_octet(stdin);
     if (octet == INPUT_END)
         return RECORD_NONE;
     from->lines++;
     if (octet == INPUT_FAILED)
         return failed(from->lines);
     ungetc(octet, stdin);
-    start(from, into);
+    start(++from->taken, into);
     into->line = from->lines;
     return take(from->as, NULL, into) ? RECORD_TAKEN : failed(from->lines);
 }
@@ -188,7 +152,7 @@ static outcome next_line(source *from, record *into)
 static outcome whole_input(source *from, record *into)
 {
     from->done++;
-    start(from, into);
+    start(++from->taken, into);
     return take_raw(into) ? RECORD_TAKEN : failed(0);
 }
 
@@ -205,6 +169,13 @@ outcome next_record(source *from, record *into)
             return found;
     }
     return RECORD_NONE;
+}
+
+void take_word(const record *line, const char *word, record *into)
+{
+    start(line->number, into);
+    into->line = line->line;
+    take(NOTATION_EITHER, word, into);
 }
 
 /* What is shorter than any text of the kind could pass for a binary stamp; all that is accepted from that length on is

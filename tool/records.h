@@ -8,8 +8,11 @@
  * every reader answers alike (5), so a record of any length is read without keeping it. */
 #define RECORD_ROOM (STAMP_LONGEST_IMAGE + 1)
 
-/* So much is kept of a record as it was given, to be shown where it is refused; one octet more stands for all that is longer. */
+/* So much is shown of a record as it was given, where it is refused. */
 #define LONGEST_SHOWN 72
+
+/* So much is kept of it: a line of a schedule, with its stamp in hex and some blanks. One octet more stands for all that is longer. */
+#define LONGEST_KEPT 160
 
 /* How octets are given. */
 typedef enum notation {
@@ -23,7 +26,7 @@ typedef struct record {
     uint8_t octets[RECORD_ROOM];
     size_t length;
     notation as;                        /* what it turned out to be; never NOTATION_EITHER */
-    char given[LONGEST_SHOWN + 1];      /* the argument or line itself, without its end */
+    char given[LONGEST_KEPT + 1];       /* the argument or line itself, without its end */
     size_t given_length;
     uint64_t number;                    /* counted from one */
     uint64_t argument;                  /* the argument it came by, counted from one, or .. */
@@ -51,6 +54,9 @@ source source_of(char **arguments, size_t count, notation as);
 typedef enum outcome { RECORD_TAKEN, RECORD_NONE, RECORD_FAILED } outcome;
 
 outcome next_record(source *from, record *into);
+
+/* The record of one word of a line: hex or text, as NOTATION_EITHER has it. */
+void take_word(const record *line, const char *word, record *into);
 
 /* Reads the record as a stamp of the kind; if it is text, as text alone. Answers the refusal, and then *found stays as
  * lent. */

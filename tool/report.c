@@ -84,7 +84,7 @@ static void end_with_octets(FILE *to, const record *of)
     fputs(is_shortened(of, false) ? "..\n" : "\n", to);
 }
 
-static void end_with_given(FILE *to, const record *of)
+void end_with_given(FILE *to, const record *of)
 {
     fputs(of->given_length == 0 ? "  (nothing given" : "  (given ", to);
     print_given_of(to, of, false);
@@ -178,5 +178,13 @@ int report_fault(const report *how, const record *of)
         fprintf(how->to, "not hex: column %llu (an octet is two hex digits)", column);
         end_with_given(how->to, of);
     }
+    return EXIT_TROUBLE;
+}
+
+int report_wrong(const report *how, const record *of, const char *what)
+{
+    print_place(how, of);
+    fputs(what, how->to);
+    end_with_given(how->to, of);
     return EXIT_TROUBLE;
 }

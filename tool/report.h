@@ -33,4 +33,10 @@ int report_refusal(const report *how, const record *of, uint32_t refusal, const 
 /* A record that is not hex. Answers the status. */
 int report_fault(const report *how, const record *of);
 
+/* What was given, as the end of a line for people. */
+void end_with_given(FILE *to, const record *of);
+
+/* A line, for people, that is wrong in another way. Answers the status. */
+int report_wrong(const report *how, const record *of, const char *what);
+
 #endif

@@ -1,6 +1,7 @@
 #include "say.h"
 
 #include <stdio.h>
+#include <stdlib.h>
 #include <string.h>
 
 /* A word as it came, short, and without octets that a terminal could act upon. */
@@ -27,4 +28,10 @@ void say_failure(const char *what, uint64_t line, int reason)
     if (line != 0)
         fprintf(stderr, " (line %llu)", (unsigned long long)line);
     fprintf(stderr, ": %s\n", strerror(reason));
+}
+
+void end_in_doubt(const char *what)
+{
+    fprintf(stderr, "stamp: %s\n", what);
+    _Exit(EXIT_TROUBLE);
 }

@@ -14,4 +14,7 @@ void say_usage(const char *what, const char *word);
 /* What failed, in which line of standard input (or 0), and why: `reason` is an errno. */
 void say_failure(const char *what, uint64_t line, int reason);
 
+/* Ends the tool where the library contradicts itself, which it is proved never to do: were it otherwise, nothing may be shown. */
+void end_in_doubt(const char *what);
+
 #endif

@@ -1,5 +1,5 @@
-/* stamp - reads, writes and explains date-and-time stamps at a prompt, and compares them. docs/stamp.1 describes it.
- * The library does the work; here are arguments, hex and printing. */
+/* stamp - reads, writes and explains date-and-time stamps at a prompt, compares them, and reads and makes schedule files.
+ * docs/stamp.1 describes it. The library does the work; here are arguments, hex and printing. */
 #include <stdio.h>
 
 #include "arguments.h"
@@ -8,6 +8,7 @@
 #include "records.h"
 #include "report.h"
 #include "say.h"
+#include "schedules.h"
 
 static const about of_a_stamp = {NULL, false, true};
 static const about of_a_value = {NULL, true, true};
@@ -176,6 +177,8 @@ int main(int argc, char **argv)
         printf("stamp %s\n", STAMP_RELEASE);
     else if (what.asked == COMMAND_WRITE && what.raw)
         status = answer_raw(&what, &from);
+    else if (is_of_schedules(what.asked))
+        status = answer_schedules(&what);
     else
         status = answer_all(&what, &from);
     output_end();

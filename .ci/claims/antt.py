@@ -17,6 +17,8 @@ ONE = {
     "OneReadingForC": "(lent : List ℤ) (r r′ : ℕ) (left left′ : List ℤ) → P lent r left → P lent r′ left′ "
                       "→ (r ≡ r′) × (left ≡ left′)",
     "OneNumberForC": "(lent : ℤ) (r r′ : ℕ) (left left′ : ℤ) → P lent r left → P lent r′ left′ → (r ≡ r′) × (left ≡ left′)",
+    "OneCountForC": "(r r′ count count′ place place′ : ℕ) → P r count place → P r′ count′ place′ "
+                    "→ (r ≡ r′) × (count ≡ count′) × (place ≡ place′)",
 }
 # `(y m d : ℕ) → OneAnswer (DateNew y m d)`, or `OneAnswer TimeEndOfDay` of what is given nothing
 ONE_ANSWER = re.compile(r"(?:((?:\([^()]*\) )+)→ )?(?:%s) (?:\((\S+) ([^()]*)\)|([^\s()]+))" % "|".join(ONE))

@@ -12,7 +12,7 @@ CLAIMS = "docs/CLAIMS.md"
 ONE_ANSWER = "crates/claims/specs/OneAnswer.antt"
 PROMISES = "crates/format/specs/Promises.antt"
 # what users call (docs/DECISIONS.md, B39), and the types that only our own crates hand to one another
-FOR_USERS = ("calendar", "values", "stamp", "instants", "boundary")
+FOR_USERS = ("calendar", "values", "stamp", "instants", "schedule", "boundary")
 BETWEEN_US = re.compile(r"\b(?:Value|Parsed)\b")
 
 

@@ -34,7 +34,7 @@ def cases_in(lines):
 
 def plain(line):
     """A line of the man page without its escapes."""
-    return line.replace("\\-", "-").replace("\\&", "")
+    return line.replace("\\-", "-").replace("\\&", "").replace("\\(ha", "^")
 
 
 def manual_cases():
@@ -49,11 +49,11 @@ def manual_cases():
 
 
 def readme_cases(of_the_tool):
-    """The commands in the README's indented blocks, each with what is printed below it: those that start with `stamp`, or the others."""
+    """The commands in the README's indented blocks, each with what is printed below it: those of `stamp`, or the others."""
     inside, examples = False, []
     for line in lines_of(README):
         if line.startswith("    $ "):
-            inside = line.startswith("    $ stamp ") == of_the_tool
+            inside = bool(re.search(r"[$|] stamp ", line)) == of_the_tool
         inside = inside and line.startswith("    ")
         if inside:
             examples.append(line[4:])

@@ -10,7 +10,9 @@ extern FILE *stdin, *stdout, *stderr;
 #define EOF (-1)
 #define _IOFBF 0
 
-int getchar(void);
+FILE *fopen(const char *name, const char *mode);
+int fileno(FILE *stream);
+int getc(FILE *stream);
 int ungetc(int octet, FILE *stream);
 int puts(const char *text);
 int fputc(int octet, FILE *stream);

@@ -2,7 +2,6 @@
 #ifndef BARE_UNISTD_H
 #define BARE_UNISTD_H
 
-#define STDIN_FILENO 0
 int isatty(int descriptor);
 
 #endif

@@ -8,8 +8,11 @@ use Rattle.format.specs.Words.{Outcome}
 use Rattle.format.specs.Values.{Settings, Value}
 use Rattle.values.proofs.OneAnswer.{one-left}
 use Rattle.moments.specs.Calls.{instant, add, difference, at, restate}
+use Rattle.card.specs.Header.{twelve}
+use Rattle.card.specs.Reading.{recordAsked}
 use Rattle.boundary.specs.Boundary.{writing, WritesNumbered, ReadsNumbered}
 use Rattle.boundary.specs.Utc.{HandsOver, InstantForC, AddForC, DifferenceForC, AtForC, RestateForC}
+use Rattle.boundary.specs.Files.{ReadForC, RecordForC}
 
 pub one-stamp-write : (n : ℕ) (t : Settings) (v : Value) (lent : List ℕ) (r r′ count count′ : ℕ) (left left′ : List ℕ)
     → WritesNumbered n t v lent r count left → WritesNumbered n t v lent r′ count′ left′ → (r ≡ r′) × (count ≡ count′) × (left ≡ left′)
@@ -39,3 +42,12 @@ one-stamp-at i o = one-handed (at i o)
 pub one-stamp-restate : (v : Value) (o : ℤ) (lent : List ℤ) (r r′ : ℕ) (left left′ : List ℤ)
     → RestateForC v o lent r left → RestateForC v o lent r′ left′ → (r ≡ r′) × (left ≡ left′)
 one-stamp-restate v o = one-handed (restate v o)
+
+-- ---- schedule files
+
+pub one-stamp-schedule-read : (s : List ℕ) (r r′ count count′ place place′ : ℕ) → ReadForC s r count place → ReadForC s r′ count′ place′ → (r ≡ r′) × (count ≡ count′) × (place ≡ place′)
+one-stamp-schedule-read s r r′ count count′ place place′ p q = (p .number ∙ sym (q .number), p .records ∙ sym (q .records), p .fault ∙ sym (q .fault))
+
+pub one-stamp-schedule-record : (s : List ℕ) (p : ℕ) (lent : List ℤ) (r r′ : ℕ) (left left′ : List ℤ)
+    → RecordForC s p lent r left → RecordForC s p lent r′ left′ → (r ≡ r′) × (left ≡ left′)
+one-stamp-schedule-record s p = one-handed (recordAsked twelve s p)

@@ -5,6 +5,7 @@ ghost use Rattle.values.specs.Meaning.{kindFrom, settingsFrom};
 ghost use Rattle.values.specs.Promise.{Writes};
 ghost use Rattle.boundary.specs.Boundary.{kindNumbered, known, valueOf, writing, WritesNumbered, readingAs, readingOf, ReadsNumbered};
 
+mod files;
 mod handing;
 mod utc;
 

@@ -3,8 +3,9 @@ use Rattle.calendar.proofs.OneAnswer as calendar
 use Rattle.values.proofs.OneAnswer as values
 use Rattle.stamp.proofs.OneAnswer as stamp
 use Rattle.instants.proofs.OneAnswer as instants
+use Rattle.schedule.proofs.OneAnswer as schedule
 use Rattle.boundary.proofs.OneAnswer as boundary
-use Rattle.claims.specs.OneAnswer.{CalendarAnswers, PartsAnswers, SettingsAnswers, WritersAnswers, ReadersAnswers, InstantsAnswers, BoundaryAnswers}
+use Rattle.claims.specs.OneAnswer.{CalendarAnswers, PartsAnswers, SettingsAnswers, WritersAnswers, ReadersAnswers, InstantsAnswers, ScheduleAnswers, BoundaryAnswers}
 
 pub calendar-answers : CalendarAnswers
 calendar-answers = (calendar.one-new, calendar.one-in-range, calendar.one-day-number, calendar.one-date-of, calendar.one-year-start)
@@ -72,6 +73,9 @@ instants-answers = (
   instants.one-restate,
 )
 
+pub schedule-answers : ScheduleAnswers
+schedule-answers = (schedule.one-number, schedule.one-read, schedule.one-record-at)
+
 pub boundary-answers : BoundaryAnswers
 boundary-answers = (
   boundary.one-stamp-write,
@@ -81,4 +85,6 @@ boundary-answers = (
   boundary.one-stamp-difference,
   boundary.one-stamp-at,
   boundary.one-stamp-restate,
+  boundary.one-stamp-schedule-read,
+  boundary.one-stamp-schedule-record,
 )

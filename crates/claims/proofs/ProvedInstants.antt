@@ -32,7 +32,7 @@ use Rattle.claims.specs.Instants.{EachHasItsInstant, TheInstants, LaterI
 use Rattle.claims.specs.Instants.{readingAt, inTheYears, RestatedExactly, TheRestated, StampsAt, AtItsOwnOffset, InstantsWorked}
 use Rattle.claims.specs.Instants.{ReadStampsHaveInstants, OwnCallsAgree, Gets, InstantsToC}
 
-refused-same : {A : Type 0} {m n : ℕ} → _≡_ {A = Outcome A} (refused m) (refused n) → m ≡ n
+pub refused-same : {A : Type 0} {m n : ℕ} → _≡_ {A = Outcome A} (refused m) (refused n) → m ≡ n
 refused-same p = cc
 
 -- ---- instants
@@ -201,7 +201,7 @@ own-calls-agree = (
   λ a b n e. sym (add-differ (b .micros) (a .micros) n (sym e)),
 )
 
-gets : {A B : Type 0} {put : A → B} (o : Outcome A) (lent : B) (r : ℕ) (left : B) → HandsOver A B put o lent r left → Gets put o lent r left
+pub gets : {A B : Type 0} {put : A → B} (o : Outcome A) (lent : B) (r : ℕ) (left : B) → HandsOver A B put o lent r left → Gets put o lent r left
 gets {put = put} o lent r left p = (
   λ m e. (p .number ∙ ap numberOf e, p .handed ∙ ap (λ z. after put z lent) e),
   λ a e. (p .number ∙ ap numberOf e, p .handed ∙ ap (λ z. after put z lent) e),

@@ -5,5 +5,6 @@ pub mod PlainNumbers
 pub mod Calendar
 pub mod Examples
 pub mod Instants
+pub mod Schedule
 pub mod CodeClaims
 pub mod OneAnswer

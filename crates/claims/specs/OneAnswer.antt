@@ -1,7 +1,7 @@
 -- One answer: no two different answers meet the promise of a public call, whatever it is given. (01, What the promises have to say.)
--- Each promise has the name that the call's contract cites (`specs/Calls.antt` of `calendar`, `values`, `stamp` and `instants`, `specs/Boundary.antt` and `specs/Utc.antt` of `boundary`); `OneAnswer P`
+-- Each promise has the name that the call's contract cites (`specs/Calls.antt` of `calendar`, `values`, `stamp`, `instants` and `schedule`, `specs/Boundary.antt`, `specs/Utc.antt` and `specs/Files.antt` of `boundary`); `OneAnswer P`
 -- says that no two different answers meet P, and `OneWriting P` the same of a writer's answer and every octet of the buffer that it leaves; `OneWritingForC`, `OneReadingForC`,
--- `OneNumberForC` of the C functions.
+-- `OneNumberForC`, `OneCountForC` of the C functions.
 use Prim.Native.Nat.{ℕ}
 use mathlib.Core.Path.{_≡_}
 use mathlib.Core.Bool.{Bool}
@@ -27,9 +27,12 @@ use Rattle.stamp.specs.Calls as stamp
 use Rattle.instants.specs.declared.Instant.{Instant}
 use Rattle.instants.specs.declared.Refusal.{Refusal as InstantsRefusal}
 use Rattle.instants.specs.Calls as instants
+use Rattle.schedule.specs.declared.Refusal.{Refusal as ScheduleRefusal}
+use Rattle.schedule.specs.Calls as schedule
 use Rattle.format.specs.Values as format
 use Rattle.boundary.specs.Boundary as boundary
 use Rattle.boundary.specs.Utc as utc
+use Rattle.boundary.specs.Files as files
 
 abbrev pub OneWriting : (List ℕ → Written → List ℕ → Type 0) → Type 0
 OneWriting P = (lent : List ℕ) (r r′ : Written) (left left′ : List ℕ) → P lent r left → P lent r′ left′ → (r ≡ r′) × (left ≡ left′)
@@ -100,7 +103,13 @@ InstantsAnswers =
     × ((i : Instant) (o : Offset) → OneAnswer (instants.InstantAt i o))
     × ((v : DatetimeTz) (o : Offset) → OneAnswer (instants.Restates v o))
 
--- the C functions: the number, the count and every octet; the number and all parts; the number and the number handed over
+abbrev pub ScheduleAnswers : Type 0
+ScheduleAnswers =
+    ((f : ScheduleRefusal) → OneAnswer (schedule.RefusalNumber f))
+    × ((s : List ℕ) → OneAnswer (schedule.ReadsFile s))
+    × ((s : List ℕ) (p : ℕ) → OneAnswer (schedule.FindsRecord s p))
+
+-- the C functions: the number, the count and every octet; the number and all parts; the number and the number handed over; the number and both counts
 abbrev pub OneWritingForC : (List ℕ → ℕ → ℕ → List ℕ → Type 0) → Type 0
 OneWritingForC P =
     (lent : List ℕ) (r r′ count count′ : ℕ) (left left′ : List ℕ) → P lent r count left → P lent r′ count′ left′
@@ -112,6 +121,9 @@ OneReadingForC P = (lent : List ℤ) (r r′ : ℕ) (left left′ : List ℤ) �
 abbrev pub OneNumberForC : (ℤ → ℕ → ℤ → Type 0) → Type 0
 OneNumberForC P = (lent : ℤ) (r r′ : ℕ) (left left′ : ℤ) → P lent r left → P lent r′ left′ → (r ≡ r′) × (left ≡ left′)
 
+abbrev pub OneCountForC : (ℕ → ℕ → ℕ → Type 0) → Type 0
+OneCountForC P = (r r′ count count′ place place′ : ℕ) → P r count place → P r′ count′ place′ → (r ≡ r′) × (count ≡ count′) × (place ≡ place′)
+
 abbrev pub BoundaryAnswers : Type 0
 BoundaryAnswers =
     ((n : ℕ) (t : format.Settings) (v : format.Value) → OneWritingForC (boundary.WritesNumbered n t v))
@@ -121,3 +133,5 @@ BoundaryAnswers =
     × ((a b : ℤ) → OneNumberForC (utc.DifferenceForC a b))
     × ((i o : ℤ) → OneReadingForC (utc.AtForC i o))
     × ((v : format.Value) (o : ℤ) → OneReadingForC (utc.RestateForC v o))
+    × ((s : List ℕ) → OneCountForC (files.ReadForC s))
+    × ((s : List ℕ) (p : ℕ) → OneReadingForC (files.RecordForC s p))

@@ -2,7 +2,7 @@
 //   W    the refusal number (0 for none), the count (0 after a refusal), and the whole buffer afterwards in hex
 //   R    the refusal number alone, or `0 kind form digits year month day micros offset`: form 0 text, 1 compact, 2 extended;
 //        digits 0 but for text; a part that the kind lacks is 0
-// `utc` answers the other cases; a line that is none is answered `?`.
+// `utc` and `schedules` answer the other cases; a line that is none is answered `?`.
 use crate::fields;
 use crate::fields::Number;
 use crate::parse;
@@ -23,13 +23,13 @@ use values::Time;
 use values::TimeTz;
 use values::Written;
 
-// ---- parts of an answer, for `utc` too
+// ---- parts of an answer, for `utc` and `schedules` too
 
 pub fn unknown(out: &mut [u8]) -> usize {
     line::octet(out, 0, b'?')
 }
 
-fn field(out: &mut [u8], at: usize, n: u64) -> usize {
+pub fn field(out: &mut [u8], at: usize, n: u64) -> usize {
     let from = line::octet(out, at, b' ');
     line::number(out, from, n)
 }
@@ -215,15 +215,6 @@ fn put_reading(out: &mut [u8], reading: Reading) -> usize {
     }
 }
 
-// The octets are the first `count` of those lent.
-fn answer_octets(out: &mut [u8], kind: u64, octets: &[u8], count: usize) -> usize {
-    if octets.len() < count {
-        return unknown(out);
-    }
-    let reading = read(kind, &octets[0..count]);
-    put_reading(out, reading)
-}
-
 pub fn answer_reading(out: &mut [u8], case: &[u8]) -> usize {
     let Number::Read(kind, after_kind) = fields::take_number(case, 1, 8) else {
         return unknown(out);
@@ -232,5 +223,5 @@ pub fn answer_reading(out: &mut [u8], case: &[u8]) -> usize {
     let Octets::Read(count) = parse::take_octets(case, after_kind, &mut octets) else {
         return unknown(out);
     };
-    answer_octets(out, kind, &octets, count)
+    put_reading(out, read(kind, parse::first(&octets, count)))
 }

@@ -1,5 +1,5 @@
 // Answers a file of cases, for a comparison with another program: a case on each line of standard input, its answer on a line of
-// standard output. `parse` says how a case is written, `answers` and `utc` how its answer is.
+// standard output. `parse` says how a case is written, `answers`, `utc` and `schedules` how its answer is.
 ghost use Prim.Native.Nat.{_≤_};
 ghost use lib.ListN.{length};
 use libc::STDIN_FILENO;
@@ -7,6 +7,7 @@ use libc::STDIN_FILENO;
 mod answers;
 mod fields;
 mod parse;
+mod schedules;
 mod utc;
 
 // All cases are held at once, and one octet more.
@@ -43,6 +44,8 @@ fn answer(out: &mut [u8], case: &[u8]) -> usize {
         b'D' => utc::answer_difference(out, case),
         b'T' => utc::answer_stamp(out, case),
         b'S' => utc::answer_restated(out, case),
+        b'F' => schedules::answer_full(out, case),
+        b'P' => schedules::answer_record(out, case),
         _ => answers::unknown(out),
     }
 }

@@ -6,6 +6,8 @@
 //   D instant other                                                   other: the instant to take away
 //   T instant offset
 //   S year month day micros offset to                                 to: the other offset
+//   F hex                                                             hex as for R, but at most 65,536 octets: a schedule file
+//   P place hex                                                       hex as for F
 // Where no limit is named: an offset and `to` are any numbers of 32 bits, an instant, `span` and `other` of 64, and these may have a minus;
 // micros is any number of 64 bits without one, and the rest are of 32.
 use crate::fields;
@@ -197,4 +199,12 @@ pub fn take_octets(s: &[u8], at: usize, out: &mut [u8]) -> Octets {
         return Octets::Read(0);
     }
     hex(rest, out)
+}
+
+// What `take_octets` read: the first `count` of the octets lent. It answers no larger count: the test is for the proof.
+pub fn first(octets: &[u8], count: usize) -> &[u8] {
+    if octets.len() < count {
+        return octets;
+    }
+    &octets[0..count]
 }

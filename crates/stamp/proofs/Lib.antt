@@ -1,3 +1,4 @@
 pub mod Choosing
 pub mod Decoding
 pub mod OneAnswer
+pub mod OwnKind

@@ -36,12 +36,12 @@ use Rattle.values.specs.Calls.{SettingsNew, SettingsDefault, SettingsFor
 -- ---- meanings undone
 
 -- the numbers of no refusal go anywhere
-refusalOf : ℕ → Refusal
+pub refusalOf : ℕ → Refusal
 refusalOf n =
     pick (eqb n 1) R.Digits (pick (eqb n 2) R.Value (pick (eqb n 3) R.NoCompact (pick (eqb n 4) R.Buffer
     (pick (eqb n 5) R.Length (pick (eqb n 6) R.Octet (pick (eqb n 7) R.Redundant R.Range))))))
 
-refusal-back : (r : Refusal) → refusalOf (refusalNumber r) ≡ r
+pub refusal-back : (r : Refusal) → refusalOf (refusalNumber r) ≡ r
 unfolding refusalOf
 refusal-back R.Digits = refl
 refusal-back R.Value = refl

@@ -1,0 +1,49 @@
+-- The C boundary of schedule files, and what its two calls promise. (02, request 4; the numbers are the header's.)
+--
+--   fullNumber w             the number that full reading answers: 0, or the refusal's
+--   fullCount w              the number of records, and 0 after a refusal
+--   fullPlace w              the place of the refused record, from one; 0 for the header, and where nothing is refused
+--   recordNumbers r          a record as five numbers: channel, correction, instant, start of its stamp, length of its stamp
+--   inWords o                start and length of a record that was found are numbers of 63 bits
+--   HandsRecord o lent r left   what is handed over of a record that was asked for, in five numbers (`HandsOver`)
+--   ReadForC s r records fault  the promise of `stamp_schedule_read`, which answers r and leaves the two numbers so
+--   RecordForC s p lent r left  the promise of `stamp_schedule_record`
+use Prim.Native.Nat.{ℕ, _<_, _^_}
+use mathlib.Core.Path.{_≡_}
+use mathlib.Core.List.{List, [], _∷_}
+use lib.IntN.{ℤ, pos}
+use Rattle.format.specs.Words.{Outcome, accepted, refused}
+use Rattle.card.specs.Header.{twelve}
+use Rattle.card.specs.Records.{Record}
+use Rattle.card.specs.Reading.{FullReading, records, refusedAt, fullReading, recordAsked}
+use Rattle.boundary.specs.Utc.{HandsOver}
+
+abbrev pub fullNumber : FullReading → ℕ
+fullNumber (records n) = 0
+fullNumber (refusedAt p m) = m
+
+abbrev pub fullCount : FullReading → ℕ
+fullCount (records n) = n
+fullCount (refusedAt p m) = 0
+
+abbrev pub fullPlace : FullReading → ℕ
+fullPlace (records n) = 0
+fullPlace (refusedAt p m) = p
+
+unfoldable pub recordNumbers : Record → List ℤ
+recordNumbers r = pos (r .channel) ∷ r .correction ∷ r .instant ∷ pos (r .start) ∷ pos (r .size) ∷ []
+
+abbrev pub inWords : Outcome Record → Type 0
+inWords (accepted r) = (r .start < 2 ^ 63) × (r .size < 2 ^ 63)
+inWords (refused n) = Unit {0}
+
+abbrev pub HandsRecord : Outcome Record → List ℤ → ℕ → List ℤ → Type 0
+HandsRecord o lent r left = HandsOver Record (List ℤ) recordNumbers o lent r left
+
+pub record ReadForC (s : List ℕ) (r count place : ℕ) : Type 0 where
+  pub number : r ≡ fullNumber (fullReading twelve s)
+  pub records : count ≡ fullCount (fullReading twelve s)
+  pub fault : place ≡ fullPlace (fullReading twelve s)
+
+abbrev pub RecordForC : List ℕ → ℕ → List ℤ → ℕ → List ℤ → Type 0
+RecordForC s p lent r left = HandsRecord (recordAsked twelve s p) lent r left

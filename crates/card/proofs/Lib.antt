@@ -1,0 +1,9 @@
+pub mod Bench
+pub mod Tests
+pub mod Slices
+pub mod Stepping
+pub mod Walking
+pub mod Accepting
+pub mod FirstFault
+pub mod Limits
+pub mod Turns
