@@ -23,7 +23,7 @@ static void print_records(const uint8_t *file, size_t length)
         return;
     }
     for (place = 1; place <= records; place++)
-        if (stamp_schedule_at(file, length, place, &found) == STAMP_ACCEPTED)
+        if (stamp_record_at(file, length, place, &found) == STAMP_ACCEPTED)
             printf("%u: channel %u, correction %+d, from instant %lld on\n", (unsigned)place, (unsigned)found.channel,
                    (int)found.correction, (long long)found.instant);
 }

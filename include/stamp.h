@@ -86,8 +86,9 @@ enum {
 /* ---- Refusals ---- */
 
 /* The one place of each refusal's name, number and sentence; the tool and the man page say the same words. Writers
- * give 1 to 4, readers 5 to 8, the calls on instants 2 and 9, those on schedules 13 to 15, and 5 to 8 for a stamp in
- * the file; always the first that applies. A kind number that is no kind is 2, in reading too. 10 to 12 are free. */
+ * give 1 to 4, readers 5 to 8, the calls on instants 2 and 9, those on schedules 13 to 15, 5 to 8 for a stamp in the
+ * file, and 2 for a place; always the first that applies. A kind number that is no kind is 2, in reading too. 10 to 12
+ * are not used yet. */
 #define STAMP_REFUSALS(X) \
     X(STAMP_REFUSED_DIGITS, 1, "the digits setting is above 6") \
     X(STAMP_REFUSED_VALUE, 2, "a part of the value or an offset is out of range, there is no such day, " \
@@ -103,7 +104,8 @@ enum {
                               "or no value has such a number") \
     X(STAMP_REFUSED_RESULT, 9, "the result can't be given: no stamp has such an instant, " \
                                "or the local reading is outside the years 1 to 9999") \
-    X(STAMP_REFUSED_HEADER, 13, "the schedule's header is wrong: it says too many records, " \
+    X(STAMP_REFUSED_HEADER, 13, "the schedule's header is wrong: it is cut short, " \
+                                "says too many records or stamp octets without records, " \
                                 "or its regions do not follow it one behind the other and end the file") \
     X(STAMP_REFUSED_RECORD, 14, "a record's channel or correction is out of range, " \
                                 "or its stamp is not in its place") \
@@ -161,7 +163,7 @@ uint32_t stamp_schedule_read(const uint8_t *file, size_t length, uint32_t *recor
 
 /* The record at a place, from one, of a schedule file that stamp_schedule_read accepts. parts: channel, correction,
  * instant, start of the stamp within the file, its length. All five stay as lent after a refusal. The file's own
- * refusals; then 2 for a place that the file hasn't. Each call reads the whole file. stamp_schedule_at is the same with
+ * refusals; then 2 for a place that the file hasn't. Each call reads the whole file. stamp_record_at is the same with
  * names. */
 uint32_t stamp_schedule_record(const uint8_t *file, size_t length, uint32_t place, int64_t parts[5]);
 
@@ -350,7 +352,7 @@ typedef struct stamp_record {
 } stamp_record;
 
 /* stamp_schedule_record. *found stays as lent after a refusal. */
-static inline uint32_t stamp_schedule_at(const uint8_t *file, size_t length, uint32_t place, stamp_record *found)
+static inline uint32_t stamp_record_at(const uint8_t *file, size_t length, uint32_t place, stamp_record *found)
 {
     int64_t parts[5] = {0};
     uint32_t refusal = stamp_schedule_record(file, length, place, parts);

@@ -94,8 +94,8 @@ bool wrong_in_header(const uint8_t *file, size_t length, wrong_number *into)
     end = stamps_start + found.stamps;
     return is_wrong(into, "count of records", found.records, 0, STAMP_MAX_RECORDS)
         || is_wrong(into, "start of the records", found.records_start, STAMP_SCHEDULE_HEADER, STAMP_SCHEDULE_HEADER)
-        || is_wrong(into, "count of stamp octets", found.stamps, found.records, STAMP_LONGEST_IMAGE * found.records)
         || is_wrong(into, "start of the stamp octets", found.stamps_start, stamps_start, stamps_start)
+        || is_wrong(into, "count of stamp octets", found.stamps, found.records, STAMP_LONGEST_IMAGE * found.records)
         || is_wrong(into, "length of the file", (int64_t)length, end, end);
 }
 

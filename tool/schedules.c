@@ -53,7 +53,7 @@ static void list(bool json, const schedule *of, uint32_t records)
     stamp_record found;
     uint32_t place;
     for (place = 1; place <= records; place++) {
-        if (stamp_schedule_at(of->octets, of->length, place, &found) != STAMP_ACCEPTED)
+        if (stamp_record_at(of->octets, of->length, place, &found) != STAMP_ACCEPTED)
             end_in_doubt("the library refuses a record of a schedule that it took");
         report_record(json, of, place, &found);
         output_record();

@@ -13,7 +13,7 @@ ONE_ANSWER = "crates/claims/specs/OneAnswer.antt"
 PROMISES = "crates/format/specs/Promises.antt"
 # what users call (docs/DECISIONS.md, B39), and the types that only our own crates hand to one another
 FOR_USERS = ("calendar", "values", "stamp", "instants", "schedule", "boundary")
-BETWEEN_US = re.compile(r"\b(?:Value|Parsed)\b")
+BETWEEN_US = re.compile(r"\b(?:Value|Parsed|Located)\b")
 
 
 def look_at(root):

@@ -49,7 +49,8 @@ static void try_sentences(void)
         try_sentence(number);
     try_that(is_sentence(9, "the result can't be given: no stamp has such an instant, "
                             "or the local reading is outside the years 1 to 9999"), "the sentence of 9");
-    try_that(is_sentence(13, "the schedule's header is wrong: it says too many records, "
+    try_that(is_sentence(13, "the schedule's header is wrong: it is cut short, "
+                             "says too many records or stamp octets without records, "
                              "or its regions do not follow it one behind the other and end the file"), "the sentence of 13");
     try_that(is_sentence(14, "a record's channel or correction is out of range, or its stamp is not in its place"), "that of 14");
     try_that(is_sentence(15, "a record's instant is before that of the record before it"), "that of 15");
@@ -333,7 +334,7 @@ static void try_record(const uint8_t *file, size_t length, uint32_t place, uint3
     stamp_record found = lent_record();
     size_t at;
     try_that(stamp_schedule_record(file, length, place, parts) == refusal, what);
-    try_that(stamp_schedule_at(file, length, place, &found) == refusal && same_record(&found, &expected), what);
+    try_that(stamp_record_at(file, length, place, &found) == refusal && same_record(&found, &expected), what);
     if (refusal == STAMP_ACCEPTED) {
         try_that(parts[0] == expected.channel && parts[1] == expected.correction && parts[2] == expected.instant, what);
         try_that(parts[3] == (int64_t)expected.start && parts[4] == (int64_t)expected.length, what);

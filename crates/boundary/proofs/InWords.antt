@@ -12,7 +12,7 @@ use Rattle.format.proofs.Unsigned.{unsigned-small}
 use Rattle.card.specs.Header.{twelve, countOf, stampsStart}
 use Rattle.card.specs.Records.{recordStart, startAt, lengthAt, Record, recordAt, inFile}
 use Rattle.card.specs.Reading.{FullReading, records, refusedAt, fullReading, recordOf, recordAsked}
-use Rattle.card.proofs.Accepting.{read-described}
+use Rattle.card.proofs.Exactly.{read-described}
 use Rattle.boundary.specs.Files.{inWords}
 
 module _ (s : List ℕ) (o : Octets s) where

@@ -13,10 +13,10 @@ use Rattle.card.specs.Header.{RecordForm, countOf, headerGood}
 use Rattle.card.specs.Records.{Record, recordAt}
 use Rattle.card.specs.Step.{after, beforeAt, step}
 use Rattle.card.specs.Reading.{Walked, taken, fault, joined, goOn, walk, walkFile, never, refusedAt, numbered, fullReading}
-use Rattle.card.specs.Described.{FirstBad, GoodAfter}
+use Rattle.card.proofs.Described.{FirstBad, GoodAfter}
 use Rattle.card.proofs.Stepping.{good-step, step-good}
 use Rattle.card.proofs.Walking.{joined-fault}
-use Rattle.card.proofs.Accepting.{file-walk, file-fault}
+use Rattle.card.proofs.Exactly.{file-walk, file-fault}
 
 -- ---- the first bad record of the n from i on is k
 

@@ -1,9 +1,10 @@
 pub mod Bench
 pub mod Tests
 pub mod Slices
+pub mod Described
 pub mod Stepping
 pub mod Walking
-pub mod Accepting
+pub mod Exactly
 pub mod FirstFault
 pub mod Limits
 pub mod Turns

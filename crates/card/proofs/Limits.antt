@@ -1,6 +1,5 @@
 -- A record at its place, its stamp, and the longest file. (02, request 4.) Assumes nothing.
 --     record-at-place    the record at a place from one; 2 for a place that the file hasn't
---     stamps-again       every stamp of an accepted file is written again as it stands
 --     longest-file       no accepted file is longer than 16 + 1,000 records and 1,000 stamps of 32 octets: 44,016 octets
 use mathlib.Core.Path.{_≡_, refl, sym}
 use mathlib.Core.List.{List}
@@ -12,20 +11,14 @@ use Rattle.format.specs.Octets.{Octets}
 use Rattle.format.specs.Words.{accepted, refused}
 use Rattle.format.specs.Values.{DatetimeTz, Answer}
 use Rattle.format.specs.Reading.{read}
-use Rattle.format.specs.Choice.{settingsFor}
-use Rattle.format.specs.Writing.{encode}
 use Rattle.format.proofs.Signed.{take-octets, drop-octets}
-use Rattle.format.proofs.Round.{was-read, read-writes}
+use Rattle.format.proofs.Round.{was-read}
 use Rattle.format.proofs.Images.{image-size}
 use Rattle.card.specs.Header.{RecordForm, twelve, recordSize, countOf, stampOctets, stampsStart}
-use Rattle.card.specs.Records.{startAt, lengthAt, endAt, stampAt, instantAt, recordAt, inFile}
-use Rattle.moments.specs.Instant.{instantOf}
-use Rattle.card.specs.Step.{atFront}
+use Rattle.card.specs.Records.{startAt, lengthAt, endAt, stampAt, recordAt, inFile}
 use Rattle.card.specs.Reading.{records, fullReading, recordAsked}
-use Rattle.card.specs.Described.{Described}
+use Rattle.card.proofs.Described.{Described}
 use Rattle.card.proofs.Slices.{slice-length}
-use Rattle.card.proofs.Accepting.{accepted-exactly}
-use Rattle.card.proofs.Stepping.{instant-is}
 
 -- ---- a record at its place, and its stamp
 
@@ -41,13 +34,6 @@ record-at-place f s n e = (
 pub stamp-octets : (f : RecordForm) (s : List ℕ) → Octets s → (i : ℕ) → Octets (stampAt f s i)
 unfolding stampAt
 stamp-octets f s o i = take-octets (lengthAt f s i) (drop (stampsStart f s + startAt f s i) s) (drop-octets (stampsStart f s + startAt f s i) s o)
-
-pub stamps-again : (f : RecordForm) (s : List ℕ) (n : ℕ) → Octets s → fullReading f s ≡ records n → (i : ℕ) → i < n
-    → (a : Answer) × (instantAt f s i ≡ instantOf (a .value)) × (encode DatetimeTz (settingsFor (a .form)) (a .value) ≡ accepted (stampAt f s i))
-stamps-again f s n o e i q =
-    let p = accepted-exactly f s n .0 e in
-    let a = p .0 .each i (omega (arith, p .1)) .stamp in
-    (a .0, instant-is f s i atFront (a .0) (a .1), read-writes DatetimeTz (stampAt f s i) (a .0) (stamp-octets f s o i) (a .1))
 
 -- ---- the longest file
 

@@ -17,15 +17,15 @@ use Rattle.format.proofs.Cases.{both-true, passed, same}
 use Rattle.moments.specs.Instant.{instantOf}
 use Rattle.card.specs.Header.{RecordForm, countOf, stampOctets}
 use Rattle.card.specs.Records.{startAt, endAt, channelAt, correctionAt, stampAt, instantAt, Record, recordAt}
-use Rattle.card.specs.Step.{Before, channelGood, placeGood, fieldsGood, inOrder, timed, step}
-use Rattle.card.specs.Described.{InPlace, GoodAfter}
+use Rattle.card.specs.Step.{Before, channelGood, placed, placeGood, fieldsGood, inOrder, timed, step}
+use Rattle.card.proofs.Described.{InPlace, GoodAfter}
 use Rattle.card.proofs.Tests.{needs-is, needs-told}
 
 module _ (f : RecordForm) (s : List ℕ) (i : ℕ) (b : Before) where
   -- ---- what refusal 14 tests
 
   pub in-place-is : InPlace f s i b → fieldsGood f s i b ≡ true
-  unfolding fieldsGood placeGood channelGood
+  unfolding fieldsGood placeGood placed channelGood
   in-place-is g =
       let n : needs (eqb (suc i) (countOf s)) (eqb (endAt f s i) (stampOctets s)) ≡ true =
       needs-is (suc i) (countOf s) (eqb (endAt f s i) (stampOctets s)) (λ e. eq-eqb (endAt f s i) (stampOctets s) (g .ends e)) in
@@ -38,7 +38,7 @@ module _ (f : RecordForm) (s : List ℕ) (i : ℕ) (b : Before) where
       ) n
 
   pub in-place-told : fieldsGood f s i b ≡ true → InPlace f s i b
-  unfolding fieldsGood placeGood channelGood
+  unfolding fieldsGood placeGood placed channelGood
   in-place-told e =
       let c = both-true (channelGood (channelAt f s i)) _ e in
       let c2 = both-true (leb 1 (channelAt f s i)) (leb (channelAt f s i) 16) (c .0) in

@@ -14,7 +14,7 @@ use Rattle.card.specs.Header.{RecordForm, countOf, headerGood}
 use Rattle.card.specs.Records.{Record}
 use Rattle.card.specs.Step.{Before, atFront, after, step}
 use Rattle.card.specs.Reading.{Walked, taken, fault, joined, goOn, walk, never, FullReading, records, refusedAt, numbered, fullReading}
-use Rattle.card.proofs.Accepting.{file-walk}
+use Rattle.card.proofs.Exactly.{file-walk}
 
 abbrev pub reading : ℕ → Walked → FullReading
 reading i (taken rs) = records (i + length rs)

@@ -16,7 +16,7 @@ use Rattle.card.specs.Records.{Record, recordAt}
 use Rattle.card.specs.Step.{after, beforeAt, step}
 use Rattle.card.specs.Reading.{Walked, taken, fault, joined, goOn, walk, never, upTo}
 use Rattle.card.specs.Records.{recordsFrom}
-use Rattle.card.specs.Described.{GoodAfter}
+use Rattle.card.proofs.Described.{GoodAfter}
 use Rattle.card.proofs.Stepping.{good-step, step-good}
 
 abbrev pub AllGood : RecordForm → List ℕ → ℕ → ℕ → Type 0

@@ -5,7 +5,7 @@
 --   later                  one behind them: 2020-01-02T00:00 UTC, as text, which is the same instant as 24:00 before
 --   card                   the file of the three
 --   with p v               the card with v for the octet at place p
---   reads s                full reading of a file of records of twelve octets
+--   reads s                full reading of a file of records of twelve octets: `records n`, or `refusedAt p m`, refused with m at the place p
 --   Thrice x n             the record x is refused with n as the first, as the second and as the last of three
 --   headerOf a b c d       a header of these four numbers
 --   zeros n                n octets 0
@@ -13,7 +13,7 @@ use Prim.Native.Nat.{ℕ, zero, suc, _+_, _*_}
 use mathlib.Core.Path.{_≡_}
 use mathlib.Core.List.{List, [], _∷_, _++_}
 use lib.IntN.{ℤ, pos, negℤ}
-use lib.ListN.{length, set, take}
+use lib.ListN.{length, set, take, drop}
 use Rattle.format.specs.Words.{accepted, refused}
 use Rattle.format.specs.Octets.{unsignedOctets, signedOctets}
 use Rattle.format.specs.Bench.{ascii}
@@ -106,8 +106,8 @@ Accepted =
     × (reads (fileOf (first ∷ second ∷ third ∷ later ∷ [])) ≡ records 4)
     × (reads (fileOf (first ∷ second ∷ later ∷ third ∷ [])) ≡ records 4)
 
--- 13: no octets; fifteen; the count, either start, the count of stamp octets; an octet too many, one missing; 1,001 records (of 1,000 the first record is
--- looked at); stamp octets without records; a count and a sum that would be right if they wrapped at 32 bits
+-- 13: no octets; fifteen; the count, either start, the regions in the other order, the count of stamp octets; an octet too many, one missing; 1,001 records (of
+-- 1,000 the first record is looked at); stamp octets without records; a count whose twelvefold, and a sum that, taken modulo 2^32, would be right
 abbrev pub OfHeaders : Type 0
 OfHeaders =
     (reads [] ≡ refusedAt 0 13)
@@ -115,6 +115,7 @@ OfHeaders =
     × (reads (with 3 2) ≡ refusedAt 0 13)
     × (reads (with 0 128) ≡ refusedAt 0 13)
     × (reads (with 7 17) ≡ refusedAt 0 13)
+    × (reads (set (with 7 58) 15 16) ≡ refusedAt 0 13)
     × (reads (with 15 51) ≡ refusedAt 0 13)
     × (reads (with 15 53) ≡ refusedAt 0 13)
     × (reads (with 11 41) ≡ refusedAt 0 13)
@@ -137,7 +138,8 @@ OfFields =
     × Thrice (row (first .stamp) 1 (negℤ (pos 1000001))) 14
     × Thrice (row (first .stamp) 1 (negℤ (pos 2147483648))) 14
 
--- 14 by the place of a stamp: it starts an octet too late, too early; it ends past the region; the last one ends before the region does
+-- 14 by the place of a stamp: it starts an octet too late, too early; it ends past the region; the last one ends before the region does, also where each stamp is
+-- as it should be and an octet stands behind the last, or between two
 abbrev pub OfPlaces : Type 0
 OfPlaces =
     (reads (with 19 1) ≡ refusedAt 1 14)
@@ -149,8 +151,10 @@ OfPlaces =
     × (reads (with 33 18) ≡ refusedAt 2 14)
     × (reads (with 45 11) ≡ refusedAt 3 14)
     × (reads (with 45 9) ≡ refusedAt 3 14)
+    × (reads (with 11 43 ++ (0 ∷ [])) ≡ refusedAt 3 14)
+    × (reads (set (set (take 77 (with 11 43) ++ (0 ∷ drop 77 card)) 31 26) 43 33) ≡ refusedAt 2 14)
 
--- 5: no octets, one octet too many; 6: a letter for a digit; 7: an offset of zero; 8: a month 13
+-- 5: no octets, one octet too many; 6: a letter for a digit; 7: an offset of zero; 8: a month 13; a Datetime, which is no DatetimeTz and which an either-or reader would take
 abbrev pub OfStamps : Type 0
 OfStamps =
     Thrice (row [] 1 (pos 0)) 5
@@ -158,6 +162,7 @@ OfStamps =
     × Thrice (row (ascii "2020-01-01T0X:00:00+00:00") 1 (pos 0)) 6
     × Thrice (row (0x00 ∷ 0x00 ∷ 0x00 ∷ 0x00 ∷ 0x36 ∷ 0xEE ∷ 0x80 ∷ []) 1 (pos 0)) 7
     × Thrice (row (ascii "2020-13-01T00:00:00+00:00") 1 (pos 0)) 8
+    × Thrice (row (ascii "2020-01-01T00:00:00") 1 (pos 0)) 5
 
 -- 15 at the second, a middle and the last record: by one second, and by the offset, where the local readings are in order
 abbrev pub OfOrder : Type 0

@@ -2,5 +2,4 @@ pub mod Header
 pub mod Records
 pub mod Step
 pub mod Reading
-pub mod Described
 pub mod Bench

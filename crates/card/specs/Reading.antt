@@ -5,7 +5,7 @@
 --   walkFile f s stop        the same from the front, with the header's test
 --   never                    the test that no record meets: then all records are read
 --   upTo stop rs             of a list of records, those up to the first for which `stop` holds, that one too
---   FullReading              what full reading answers: the number of records, or a refusal with its place
+--   FullReading              what full reading answers: `records n`, the number of records, or `refusedAt p m`, refused with m at the place p
 --   fullReading f s          full reading
 --   recordAsked f s place    the record at a place, from one, of an accepted file, with its stamp's start within the file
 use Prim.Native.Nat.{ℕ, zero, suc, _-_}

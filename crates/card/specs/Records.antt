@@ -54,6 +54,7 @@ instantAt f s i = instantRead (read DatetimeTz (stampAt f s i))
 
 pub record Record : Type 0 where
   pub place : ℕ
+  -- within the stamp octets; `inFile` makes it one within the file
   pub start : ℕ
   pub size : ℕ
   pub channel : ℕ

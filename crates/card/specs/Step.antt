@@ -7,7 +7,9 @@
 --   beforeAt f s i       before record i, by its place alone
 --   greatestCorrection   the greatest correction, either way
 --   channelGood c        a channel is 1 to 16
---   placeGood            a stamp starts where the last one ended, ends within its region, and the last record's ends the region
+--   placed               of a stamp's start and end, where the last one ended, the count of stamp octets, and whether it is the last record's: it starts where the last
+--                        one ended, ends within its region, and the last record's ends the region
+--   placeGood            the stamp of record i is so placed
 --   fieldsGood           channel, correction and stamp place are right; else refusal 14
 --   inOrder              the instant is not below the last one; else refusal 15
 --   step f s i b         what comes of record i after b: the record, or the first of 14, 5 to 8, 15 that applies
@@ -50,11 +52,14 @@ unfoldable pub channelGood : ℕ → Bool
 channelGood c = both (leb 1 c) (leb c 16)
 
 -- "Stamps follow one another in record order without gaps, the first starts at 0, and the last record's stamp ends its region"
+unfoldable pub placed : ℕ → ℕ → ℕ → ℕ → Bool → Bool
+placed start end ended octets last =
+    both (eqb start ended)
+    (both (leb end octets)
+    (needs last (eqb end octets)))
+
 unfoldable pub placeGood : RecordForm → List ℕ → ℕ → Before → Bool
-placeGood f s i b =
-    both (eqb (startAt f s i) (b .ended))
-    (both (leb (endAt f s i) (stampOctets s))
-    (needs (eqb (suc i) (countOf s)) (eqb (endAt f s i) (stampOctets s))))
+placeGood f s i b = placed (startAt f s i) (endAt f s i) (b .ended) (stampOctets s) (eqb (suc i) (countOf s))
 
 unfoldable pub fieldsGood : RecordForm → List ℕ → ℕ → Before → Bool
 fieldsGood f s i b =

@@ -1,6 +1,6 @@
 -- The claims of request 4, each from the laws of `card`. Assumes nothing.
 use mathlib.Core.Path.{_≡_, refl, sym, _∙_, ap}
-use mathlib.Core.Logic.{_⊎_, ⊎-elim, inl, inr}
+use mathlib.Core.Logic.{_↔_, _⊎_, ⊎-elim, inl, inr}
 use mathlib.Core.Bool.{Bool, true, false}
 use mathlib.Core.List.{List}
 use Prim.Native.Nat.{ℕ, zero, suc, _+_, _*_, _<_, _≤_}
@@ -18,8 +18,8 @@ use Rattle.card.specs.Header.{twelve, countOf, stampOctets, stampsStart}
 use Rattle.card.specs.Records.{startAt, lengthAt, channelAt, correctionAt, stampAt, instantAt, Record, recordAt, inFile}
 use Rattle.card.specs.Step.{Last, at, beforeAt, inOrder, fieldsGood, timed, step}
 use Rattle.card.specs.Reading.{records, refusedAt, FullReading, fullReading, recordAsked}
-use Rattle.card.specs.Described as D
-use Rattle.card.proofs.Accepting as accepting
+use Rattle.card.proofs.Described as D
+use Rattle.card.proofs.Exactly as accepting
 use Rattle.card.proofs.FirstFault as first
 use Rattle.card.proofs.Limits as limits
 use Rattle.card.proofs.Stepping as stepping
@@ -219,7 +219,7 @@ stamps-again s n o e i q =
     let t = c .0 .each i (omega (arith, c .1)) .1 in
     let x : Octets (stampOf s i) = rw (stamp-is s i) at (limits.stamp-octets twelve s o i) in
     let w = was-read DatetimeTz (stampOf s i) (t .0) x (t .1) in
-    (t .0, instant-is (t .0 .value) (w .from .range) ∙ ap accepted (moment s i (t .0) (t .1)), read-writes DatetimeTz (stampOf s i) (t .0) x (t .1))
+    (t .0, t .1, instant-is (t .0 .value) (w .from .range) ∙ ap accepted (moment s i (t .0) (t .1)), read-writes DatetimeTz (stampOf s i) (t .0) x (t .1))
   where
     moment : (s : List ℕ) (i : ℕ) (a : Answer) → read DatetimeTz (stampOf s i) ≡ accepted a → instantOf (a .value) ≡ momentOf s i
     moment s i a e = sym (stepping.instant-is twelve s i (beforeAt twelve s i) a (ap (read DatetimeTz) (stamp-is s i) ∙ e)) ∙ moment-is s i
@@ -266,8 +266,8 @@ same-record s n i r e h = (
   ap (λ (x : Record). x .instant) h,
 )
 
-pub own-record : OwnRecord
-own-record s i r = (λ e. go (fullReading twelve s) refl e, λ p. back p)
+own-found : (s : List ℕ) (i : ℕ) (r : GivenRecord) → FindsRecord s (suc i) (G.Record r) ↔ (Card s × (i < unsignedAt s 0 4) × shownAs r s i)
+own-found s i r = (λ e. go (fullReading twelve s) refl e, λ p. back p)
   where
     go : (w : FullReading) → fullReading twelve s ≡ w → FindsRecord s (suc i) (G.Record r) → Card s × (i < unsignedAt s 0 4) × shownAs r s i
     go (refusedAt q m) e f = let k = asked-refused s (suc i) q m e in absurd (let z : _≡_ {A = ℕ} 0 1 = cc in omega arith)
@@ -284,6 +284,16 @@ own-record s i r = (λ e. go (fullReading twelve s) refl e, λ p. back p)
         let e = file-accepted-exactly s (unsignedAt s 0 4) .1 (p .0, refl) in
         let h = p .2 in
         rw (h .0, h .1, h .2, h .3, h .4, h .5) (sym (the-record s .0 (unsignedAt s 0 4) e .0 i (p .1)))
+
+own-none : (s : List ℕ) (r : GivenRecord) → FindsRecord s 0 (G.Record r) → ⊥
+own-none s r f = go (fullReading twelve s) refl
+  where
+    go : (w : FullReading) → fullReading twelve s ≡ w → ⊥
+    go (refusedAt q m) e = let k = asked-refused s 0 q m e in absurd (let z : _≡_ {A = ℕ} 0 1 = cc in omega arith)
+    go (records n) e = let k = the-record s .0 n e .2 in absurd (let z : _≡_ {A = ℕ} 0 1 = cc in omega arith)
+
+pub own-record : OwnRecord
+own-record = (own-found, own-none, λ s p f. (λ e. sym e, λ e. sym e))
 
 pub files-to-c : FilesToC
 unfolding recordNumbers

@@ -14,7 +14,9 @@
 --   Faulty s i m          record i is refused with m: the first of the three that fails
 --   fullReading twelve s  what full reading comes to (`card/specs/Reading.antt`): `records n`, or `refusedAt p m`, refused with m at the record of place p, from one
 --   recordAsked twelve s p   what the record at the place p, from one, comes to
---   leZ a b               a ≤ b, of integers; `A ⊎ B`: A or B
+--   ReadsFile, FindsRecord    what `read` and `record_at` promise (`schedule/specs/Calls.antt`): `F.Records n`, `F.Refused f p`, `D.Record r`, `D.Refused f` are their answers
+--   ReadForC, RecordForC      what the two C functions promise (`boundary/specs/Files.antt`); `Gets` is what C gets of a call (`Instants.antt`)
+--   leZ a b               a ≤ b, of integers; `a -ℤ b` is a less b; `A ⊎ B`: A or B
 use Prim.Native.Nat.{ℕ, suc, _+_, _*_, _<_, _≤_}
 use mathlib.Core.Path.{_≡_}
 use mathlib.Core.Logic.{_↔_, _⊎_}
@@ -150,7 +152,7 @@ NeverDecrease =
 abbrev pub StampsAgain : Type 0
 StampsAgain =
     (s : List ℕ) (n : ℕ) → Octets s → fullReading twelve s ≡ records n → (i : ℕ) → i < n
-    → (a : Answer) × (instant (a .value) ≡ accepted (momentOf s i)) × (encode DatetimeTz (settingsFor (a .form)) (a .value) ≡ accepted (stampOf s i))
+    → (a : Answer) × (read DatetimeTz (stampOf s i) ≡ accepted a) × (instant (a .value) ≡ accepted (momentOf s i)) × (encode DatetimeTz (settingsFor (a .form)) (a .value) ≡ accepted (stampOf s i))
 
 -- The record at a place, from one, of an accepted file: its fields, its instant, and where its stamp stands in the file. 2 for a place that the file hasn't. Of a file
 -- that is refused its own refusal, whatever the place.
@@ -190,7 +192,8 @@ OwnReading =
     ((s : List ℕ) (n : ℕ) → ReadsFile s (F.Records n) ↔ (Card s × (n ≡ unsignedAt s 0 4)))
     × ((s : List ℕ) (f : Refusal) (p : ℕ) → ReadsFile s (F.Refused f p) ↔ (fullReading twelve s ≡ refusedAt p (refusalNumber f)))
 
--- `record_at` answers a record exactly where the file is so and has that place: the one there, with its stamp where it says, within the file.
+-- `record_at` answers a record exactly where the file is so and has that place: the one there, with its stamp where it says, within the file; never at place 0; and a
+-- refusal exactly where the record is refused so.
 abbrev pub shownAs : GivenRecord → List ℕ → ℕ → Type 0
 shownAs r s i =
     (r .place ≡ suc i) × (r .start ≡ 16 + 12 * unsignedAt s 0 4 + startOf s i) × (r .length ≡ lengthOf s i) × (r .channel ≡ channelOf s i)
@@ -198,7 +201,9 @@ shownAs r s i =
 
 abbrev pub OwnRecord : Type 0
 OwnRecord =
-    (s : List ℕ) (i : ℕ) (r : GivenRecord) → FindsRecord s (suc i) (D.Record r) ↔ (Card s × (i < unsignedAt s 0 4) × shownAs r s i)
+    ((s : List ℕ) (i : ℕ) (r : GivenRecord) → FindsRecord s (suc i) (D.Record r) ↔ (Card s × (i < unsignedAt s 0 4) × shownAs r s i))
+    × ((s : List ℕ) (r : GivenRecord) → FindsRecord s 0 (D.Record r) → ⊥)
+    × ((s : List ℕ) (p : ℕ) (f : Refusal) → FindsRecord s p (D.Refused f) ↔ (recordAsked twelve s p ≡ refused (refusalNumber f)))
 
 -- channel, correction, instant, start of the stamp within the file, its length
 abbrev pub fiveNumbers : Record → List ℤ

@@ -8,4 +8,5 @@ mod Seeing
 mod Stored
 mod ReadingSteps
 mod InRange
+mod LocalReadings
 mod WritingSteps

@@ -3,6 +3,7 @@
 mod frequent_lengths;
 mod lengths;
 mod limits;
+mod locating;
 mod put;
 mod readers;
 mod reading;
@@ -10,6 +11,7 @@ mod writers;
 mod writing;
 
 pub use lengths::longest;
+pub use locating::locate_datetime_tz;
 pub use readers::read_date;
 pub use readers::read_date_tz;
 pub use readers::read_datetime;

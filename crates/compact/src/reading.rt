@@ -130,7 +130,7 @@ impl Taken {
     }
 
     // The number, counted from the least: so that it is split unsigned, and goes down to its day before 2020 too.
-    fn count(self, kind: Kind) -> u64
+    pub fn count(self, kind: Kind) -> u64
         requires { ⌜ numberInRange (kindFrom kind) (self .front) (self .number) ≡ true ⌝ }
         ensures { λ r. ⌜ r ≡ countTaken (kindFrom kind) self ⌝ }
     {

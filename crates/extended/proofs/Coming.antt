@@ -6,14 +6,18 @@ use Prim.Native.Nat.{ℕ, _+_, _%_}
 use lib.IntN.{pos}
 use lib.Dec.{leb, eqb}
 use lib.ListN.{length}
-use borrow.Author.Tests.{eq-eqb, ne-eqb, eqb-true}
+use native.Mathlib.Omega.{arith}
+use borrow.Author.Tests.{eq-eqb, ne-eqb, eqb-true, leb-true}
 use Rattle.format.specs.Words.{pick, both, either, accepted, refused, unless}
 use Rattle.format.specs.Calendar.{noDate, lastNumber, dayOf}
-use Rattle.format.specs.Values.{Kind, dated, zoned, Value, timeInRange, offsetInRange, extended}
+use Rattle.format.specs.Local.{join}
+use Rattle.format.specs.Values.{Kind, dated, zoned, Value, endOfDay, timeInRange, offsetInRange, extended}
 use Rattle.format.specs.Octets.{unsignedAt}
 use Rattle.format.specs.Extended.{dayWidth, offsetFrom, extendedValue, readExtended}
 use Rattle.format.specs.Reading.{readIn, readAs}
 use Rattle.format.proofs.Cases.{both-false}
+use Rattle.format.proofs.Dates.{number-date}
+use Rattle.values.specs.Answers.{localIn}
 use Rattle.extended.proofs.Image.{width-dated, width-undated}
 
 -- the length of the octets, the day number and the microseconds, by the kind's flag `dated`
@@ -75,3 +79,9 @@ module _ (k : Kind) (s : List ℕ) (n day micros : ℕ) (p : Stands k s n day mi
       → accepted (record { kind = k; form = extended; value = v }) ≡ readAs k extended s
   unfolding readIn extendedValue
   found l h o d t v e f g = rw (comes l, h, o, d, t, ← e, ← f, ← g)
+
+  -- the day number is that of its date
+  pub located-there : length s ≡ n → either (zoned k) (eqb bits 0) ≡ true → offsetInRange (offsetFrom bits) ≡ true → leb day lastNumber ≡ true
+      → timeInRange micros ≡ true → dated k ≡ true → accepted (join endOfDay day micros, offsetFrom bits) ≡ localIn (readAs k extended s)
+  unfolding readIn extendedValue
+  located-there l h o d t y = rw (comes l, h, o, d, t, y, number-date day (omega (arith, leb-true day lastNumber d)) .1)

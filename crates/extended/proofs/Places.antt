@@ -40,7 +40,7 @@ module _ (s : List ℕ) (o : Octets s) where
           (λ n. rw (ne-eqb (a + b * 256) 128 n, ne-eqb ((a * 256 + b) % 4096) 0 (λ e. n (both-octets a b f ha hb e))))
           (eq-or-ne (a + b * 256) 128)
 
-  -- ---- the microseconds: an octet and four
+  -- ---- the microseconds: an octet and four, alone and behind a day number
 
   pub low-small : unsignedAt s 3 4 < 4294967296
   low-small = unsigned-small s 3 4 o
@@ -49,7 +49,14 @@ module _ (s : List ℕ) (o : Octets s) where
   unfolding unsignedAt
   five = omega arith
 
-  -- ---- the day number and the microseconds: eight octets
+  pub low-small-behind : unsignedAt s 6 4 < 4294967296
+  low-small-behind = unsigned-small s 6 4 o
+
+  pub five-behind : getD s 5 0 * 4294967296 + unsignedAt s 6 4 ≡ unsignedAt s 5 5
+  unfolding unsignedAt
+  five-behind = omega arith
+
+  -- ---- the day number: the first three of eight octets
 
   time-small : unsignedAt s 5 5 < 1099511627776
   time-small = unsigned-small s 5 5 o
@@ -60,6 +67,3 @@ module _ (s : List ℕ) (o : Octets s) where
 
   pub day-above : unsignedAt s 2 8 / 1099511627776 ≡ unsignedAt s 2 3
   day-above = omega (arith, eight, time-small)
-
-  pub time-below : unsignedAt s 2 8 % 1099511627776 ≡ unsignedAt s 5 5
-  time-below = omega (arith, eight, time-small)

@@ -10,6 +10,7 @@ const TIME_LENGTH: usize = 7;
 const DATETIME_LENGTH: usize = 10;
 
 pub use head::head_bits;
+pub use readers::locate_datetime_tz;
 pub use readers::read_datetime;
 pub use readers::read_datetime_tz;
 pub use readers::read_time;

@@ -7,13 +7,14 @@ ghost use Rattle.format.specs.Values as format;
 ghost use Rattle.format.specs.Octets.{unsignedAt};
 ghost use Rattle.format.specs.Extended.{headBits, offsetFrom};
 ghost use Rattle.format.specs.Reading.{firstBits, readAs};
-ghost use Rattle.values.specs.Promise.{Parses};
+ghost use Rattle.values.specs.Promise.{Parses, Locates};
 use crate::DATETIME_LENGTH;
 use crate::TIME_LENGTH;
 use crate::head;
 use calendar::Date;
 use calendar::Dated;
 use values::Form;
+use values::Located;
 use values::Offset;
 use values::Parsed;
 use values::Refusal;
@@ -46,7 +47,8 @@ fn time_in(s: &[u8]) -> Time
     Time::new((s[2] as u64) * 0x1_0000_0000 + (octets::take4(s, 3) as u64))
 }
 
-// Day number and microseconds of a Datetime or a DatetimeTz are one word of 8 octets: the first 3, and the other 5.
+// The day number of a Datetime or a DatetimeTz is the first 3 octets of a word of 8, and the microseconds are the other 5: read as those of a Time, as the
+// compiler would not load the word once for both.
 fn day_in(s: &[u8]) -> u32
     requires { ⌜ 10 ≤ length (now s) ⌝ }
     ensures { λ r. ⌜ r ≡ unsignedAt (now (s .entry)) 2 3 ⌝ }
@@ -58,7 +60,7 @@ fn time_of_day_in(s: &[u8]) -> Time
     requires { ⌜ 10 ≤ length (now s) ⌝ }
     ensures { λ r. ⌜ r .micros ≡ unsignedAt (now (s .entry)) 5 5 ⌝ }
 {
-    Time::new(octets::take8(s, 2) % 0x100_0000_0000)
+    Time::new((s[5] as u64) * 0x1_0000_0000 + (octets::take4(s, 6) as u64))
 }
 
 // ---- the four kinds
@@ -145,4 +147,28 @@ pub fn read_datetime_tz(s: &[u8]) -> Parsed
     };
     let value = Value { date, time, offset };
     Parsed::Stamp(Form::Extended, value)
+}
+
+// ---- a local reading
+
+// That of a DatetimeTz whose date nobody asks for, and its offset: the tests are those of `read_datetime_tz`, but no date is made.
+pub fn locate_datetime_tz(s: &[u8]) -> Located
+    ensures { λ r. ⌜ Locates (readAs format.DatetimeTz format.extended (now (s .entry))) r ⌝ }
+{
+    if s.len() != DATETIME_LENGTH {
+        return Located::Refused(Refusal::Length);
+    }
+    let offset = offset_in(s);
+    if !offset.in_range() {
+        return Located::Refused(Refusal::Range);
+    }
+    let time = time_of_day_in(s);
+    if !time.in_range() {
+        return Located::Refused(Refusal::Range);
+    }
+    let day = day_in(s);
+    if Date::LAST_NUMBER < day {
+        return Located::Refused(Refusal::Range);
+    }
+    Located::At(day as u64 * Time::END_OF_DAY + time.micros, offset)
 }

@@ -31,11 +31,11 @@ module _ (s : List ℕ) (at : ℕ) where
   unfolding word
   five-loads w l = record { number = omega (arith, l .number); octets = l .octets }
 
-  pub eight-loads : (v w : ℕ) → Loads (four s (at + 4)) s v → Loads (four s at) s w → Loads (eight s at) s (v * 4294967296 + w)
+  pub five-small : (w : ℕ) → Loads (five s at) s w → w < 1099511627776
   unfolding word
-  eight-loads v w l m =
-      let e : at + 4 + 1 ≡ at + 5 = omega arith in
-      let f : at + 4 + 2 ≡ at + 6 = omega arith in
-      let g : at + 4 + 3 ≡ at + 7 = omega arith in
-      let n = rw (e, f, g) at (l .number) in
-      record { number = omega (arith, n, m .number); octets = l .octets }
+  five-small w l = omega (arith, l .number, l .octets at, l .octets (at + 1), l .octets (at + 2), l .octets (at + 3), l .octets (at + 4))
+
+  pub eight-loads : (w : ℕ) → Loads (five s at) s w
+      → Loads (eight s at) s (getD s (at + 7) 0 * 72057594037927936 + getD s (at + 6) 0 * 281474976710656 + getD s (at + 5) 0 * 1099511627776 + w)
+  unfolding word
+  eight-loads w l = record { number = omega (arith, l .number); octets = l .octets }

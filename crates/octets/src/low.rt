@@ -65,9 +65,13 @@ pub fn take_low5(s: &[u8], at: usize) -> u64
     last * 4294967296 + take_low4(s, at)
 }
 
+// The last three octet by octet: of two halves of four the compiler would not make one load on Arm.
 pub fn take_low8(s: &[u8], at: usize) -> u64
     requires { ⌜ at + 8 ≤ length (now s) ⌝ }
     ensures { λ r. ⌜ Loads (eight (now (s .entry)) at) (now (s .entry)) r ⌝ }
 {
-    take_low4(s, at + 4) * 4294967296 + take_low4(s, at)
+    let sixth = s[at + 5] as u64;
+    let seventh = s[at + 6] as u64;
+    let last = s[at + 7] as u64;
+    last * 72057594037927936 + seventh * 281474976710656 + sixth * 1099511627776 + take_low5(s, at)
 }

@@ -1,9 +1,9 @@
 -- Signed numbers as the code compares them: the range of a correction, and the order of two instants. Assumes nothing.
 use mathlib.Core.Path.{_≡_, refl, sym, ap, _∙_}
 use mathlib.Core.Bool.{true, false, not}
-use Prim.Native.Nat.{ℕ, suc, _≤_}
+use Prim.Native.Nat.{suc}
 use native.Mathlib.Omega.{arith}
-use lib.IntN.{ℤ, pos, negsuc, natAbs, negℤ, _-ℤ_}
+use lib.IntN.{ℤ, pos, negsuc, natAbs}
 use lib.Dec.{leb}
 use lib.Signed.{ltZ, leZ}
 use mir.Syntax.{w64}

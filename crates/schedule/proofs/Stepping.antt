@@ -22,14 +22,14 @@ use Rattle.format.specs.Reading.{read}
 use Rattle.format.proofs.Cases.{both-true, same}
 use Rattle.format.proofs.Unsigned.{unsigned-small}
 use Rattle.moments.specs.Instant.{instantOf}
-use Rattle.card.specs.Header.{twelve, countOf, stampsStart}
+use Rattle.card.specs.Header.{twelve, stampsStart}
 use Rattle.card.specs.Records.{recordStart, startAt, lengthAt, channelAt, correctionAt, stampAt, instantAt, recordAt}
-use Rattle.card.specs.Step.{at, atFront, channelGood, placeGood, fieldsGood, timed, step}
-use Rattle.card.proofs.Accepting.{header-told}
+use Rattle.card.specs.Step.{at, atFront, channelGood, placed, placeGood, fieldsGood, timed, step}
+use Rattle.card.proofs.Exactly.{header-told}
 use Rattle.card.proofs.Stepping.{instant-is}
 use Rattle.schedule.specs.declared.header.Regions.{Regions}
 use Rattle.schedule.specs.declared.walk.Before.{Before}
-use Rattle.schedule.specs.Steps.{Says, fieldsIn, placed, right, instantIn, beforeFrom, taken}
+use Rattle.schedule.specs.Steps.{Says, fieldsIn, right, instantIn, beforeFrom, taken}
 
 pub fields-small : (s : List ℕ) (i : ℕ) → Octets s → (startAt twelve s i < 4294967296) × (lengthAt twelve s i < 65536)
 unfolding startAt lengthAt

@@ -1,18 +1,18 @@
 -- The walk over all records. Assumes nothing.
 --     low, walk-low    before the first record the code has the least number for the last instant: no instant is below it
 --     taken-is         a record that a step took is the one at its place
---     keep-on          the record at the place asked for is kept, once it was taken
-use mathlib.Core.Path.{_≡_, refl, sym, ap, _∙_}
+--     keep-on          the instant of the record at the place asked for is kept, once it was taken
+use mathlib.Core.Path.{_≡_, refl, sym, ap}
 use mathlib.Core.Logic.{⊎-elim}
-use mathlib.Core.Bool.{Bool, true, false}
+use mathlib.Core.Bool.{true}
 use mathlib.Core.List.{List}
 use Prim.Native.Nat.{ℕ, zero, suc, _+_, _≤_, _<_}
 use native.Mathlib.Omega.{arith}
-use lib.IntN.{ℤ, pos, negsuc}
+use lib.IntN.{ℤ, negsuc}
 use lib.Dec.{eqb}
 use lib.Signed.{leZ}
 use borrow.Author.Tests.{eq-eqb, ne-eqb}
-use Rattle.format.specs.Words.{pick, both, Outcome, accepted, refused, unless}
+use Rattle.format.specs.Words.{pick, Outcome, accepted, refused, unless}
 use Rattle.format.specs.Octets.{Octets}
 use Rattle.format.specs.Values.{DatetimeTz, Answer}
 use Rattle.format.specs.Reading.{read}
@@ -21,7 +21,7 @@ use Rattle.format.proofs.Round.{was-read}
 use Rattle.moments.specs.Instant.{instantOf, leastInstant, isInstant}
 use Rattle.moments.proofs.Limits.{within}
 use Rattle.card.specs.Header.{twelve}
-use Rattle.card.specs.Records.{stampAt, startAt, lengthAt, recordAt}
+use Rattle.card.specs.Records.{stampAt, startAt, lengthAt, instantAt, recordAt}
 use Rattle.card.specs.Step.{at, none, Before as FileBefore, atFront, after, placeGood, fieldsGood, timed, step}
 use Rattle.card.specs.Reading.{walk, never, goOn}
 use Rattle.card.proofs.Tests.{leZ-trans}
@@ -66,7 +66,11 @@ taken-small s i t o e =
     let q : t .fields .length ≡ lengthAt twelve s i = ap (λ r. r .size) e in
     (omega (arith, f .0, p), omega (arith, f .1, q))
 
-pub keep-on : (s : List ℕ) (place i : ℕ) (t k : Taken) → taken i t ≡ recordAt twelve s i → Kept s place i k → Kept s place (i + 1) (pick (eqb (i + 1) place) t k)
+pub taken-instant : (s : List ℕ) (i : ℕ) (t : Taken) → taken i t ≡ recordAt twelve s i → t .instant ≡ instantAt twelve s i
+unfolding recordAt
+taken-instant s i t e = ap (λ r. r .instant) e
+
+pub keep-on : (s : List ℕ) (place i : ℕ) (t k : ℤ) → t ≡ instantAt twelve s i → Kept s place i k → Kept s place (i + 1) (pick (eqb (i + 1) place) t k)
 keep-on s place i t k e h j p q =
     ⊎-elim
     (λ (l : i + 1 ≡ place). let z : i ≡ j = omega arith in rw (eq-eqb (i + 1) place l) (rw z at e))

@@ -3,7 +3,6 @@
 --   Says s g           the header of s is right, and g is what it says
 --   HeaderRead s r     what the header's reader answers: what it says, or that it is bad
 --   fieldsIn s i       the fields of record i
---   placed             a stamp's place is right: `last` says that it is the last record's
 --   right x e n last   the fields x are right behind a stamp that ended at e, with n stamp octets: else refusal 14
 --   instantIn o        the instant of what was read
 --   timed r            what reading a record's stamp answers
@@ -11,20 +10,21 @@
 --   taken i t          record i, in the paper's terms
 --   stepped i r        what a step answers about record i
 --   shown t p n        what is shown of a record of a file of n records, at the place p
---   Walks s p r        what a walk over the whole file answers: what full reading comes to, and the record at the place p, from one, where the file has it
+--   Walks s p r        what a walk over the whole file answers: what full reading comes to, and the instant of the record at the place p, from one, where
+--                      the file has it
 use Prim.Native.Nat.{ℕ, suc, _+_, _*_, _≤_}
 use mathlib.Core.Path.{_≡_}
 use mathlib.Core.Bool.{Bool, true, false}
 use mathlib.Core.List.{List}
 use lib.IntN.{ℤ, natAbs}
-use lib.Dec.{leb, eqb}
-use Rattle.format.specs.Words.{both, needs, pick, Outcome, accepted, refused}
+use lib.Dec.{leb}
+use Rattle.format.specs.Words.{both, Outcome, accepted, refused}
 use Rattle.format.specs.Values.{Answer}
 use Rattle.moments.specs.Instant.{instantOf}
 use Rattle.values.specs.Meaning as values
 use Rattle.card.specs.Header.{twelve, headerGood, countOf, stampOctets, stampsStart}
-use Rattle.card.specs.Records.{startAt, lengthAt, channelAt, correctionAt, Record as FileRecord, recordAt}
-use Rattle.card.specs.Step.{at, Before as FileBefore, channelGood, greatestCorrection}
+use Rattle.card.specs.Records.{startAt, lengthAt, channelAt, correctionAt, instantAt, Record as FileRecord}
+use Rattle.card.specs.Step.{at, Before as FileBefore, channelGood, greatestCorrection, placed}
 use Rattle.card.specs.Reading.{records, refusedAt, fullReading}
 use Rattle.schedule.specs.declared.Record.{Record}
 use Rattle.schedule.specs.declared.header.Regions.{Regions}
@@ -63,9 +63,6 @@ fieldsIn s i =
       channel = channelAt twelve s i;
       correction = correctionAt twelve s i;
     }
-
-unfoldable pub placed : ℕ → ℕ → ℕ → ℕ → Bool → Bool
-placed start end ended octets last = both (eqb start ended) (both (leb end octets) (needs last (eqb end octets)))
 
 unfoldable pub right : Fields → ℕ → ℕ → Bool → Bool
 right x ended octets last =
@@ -114,8 +111,8 @@ shown t p n =
       instant = record { micros = t .instant };
     }
 
-abbrev pub Kept : List ℕ → ℕ → ℕ → Taken → Type 0
-Kept s p n t = (i : ℕ) → p ≡ suc i → p ≤ n → taken i t ≡ recordAt twelve s i
+abbrev pub Kept : List ℕ → ℕ → ℕ → ℤ → Type 0
+Kept s p n t = (i : ℕ) → p ≡ suc i → p ≤ n → t ≡ instantAt twelve s i
 
 abbrev pub Walks : List ℕ → ℕ → Walk → Type 0
 Walks s p (W.Ended n t) = (fullReading twelve s ≡ records n) × Kept s p n t

@@ -6,6 +6,7 @@ mod header;
 mod stamps;
 mod walk;
 
+use crate::walk::Taken;
 use crate::walk::Walk;
 use instants::Instant;
 
@@ -49,16 +50,13 @@ pub enum Found {
 
 impl FullReading {
     pub const MOST_RECORDS: u32 = 1_000;
-
-    // No accepted file has more octets.
-    pub const LONGEST_FILE: usize = 44_016;
 }
 
 impl Record {
     // Channels are 1 to 16.
     pub const CHANNELS: u32 = 16;
 
-    // As much is the least, below 0.
+    // Either way.
     pub const GREATEST_CORRECTION: i64 = 1_000_000;
 }
 
@@ -90,14 +88,18 @@ pub fn record_at(file: &[u8], place: u32) -> Found
     ensures { λ r. ⌜ FindsRecord (now (file .entry)) place r ⌝ }
 {
     match walk::whole(file, place) {
-        Walk::Ended(records, kept) => {
+        Walk::Ended(records, instant) => {
             if place < 1 {
                 return Found::Refused(Refusal::Base(values::Refusal::Value));
             }
             if records < place {
                 return Found::Refused(Refusal::Base(values::Refusal::Value));
             }
-            Found::Record(kept.in_file(place, records))
+            let taken = Taken {
+                fields: fields::fields_at(file, (place - 1) as usize),
+                instant,
+            };
+            Found::Record(taken.in_file(place, records))
         }
         Walk::Refused(refusal, _) => Found::Refused(refusal),
     }

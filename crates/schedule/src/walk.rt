@@ -33,9 +33,9 @@ pub(crate) enum Stepped {
     Refused(Refusal),
 }
 
-// What comes of a whole file: the number of its records, and the one at the place asked for, if it is there; or the refusal and its place.
+// What comes of a whole file: the number of its records, and the instant of the one at the place asked for, if it is there; or the refusal and its place.
 pub(crate) enum Walk {
-    Ended(u32, Taken),
+    Ended(u32, i64),
     Refused(Refusal, u32),
 }
 
@@ -64,13 +64,14 @@ pub(crate) fn step(file: &[u8], regions: Regions, i: u32, before: Before) -> Ste
     }
 }
 
-fn choose(wanted: bool, taken: Taken, kept: Taken) -> Taken
-    ensures { λ r. ⌜ r ≡ pick wanted taken kept ⌝ }
+fn choose(wanted: bool, instant: i64, kept: i64) -> i64
+    ensures { λ r. ⌜ r ≡ pick wanted instant kept ⌝ }
 {
-    if wanted { taken } else { kept }
+    if wanted { instant } else { kept }
 }
 
-// All records, of which the one at `place`, from one, is kept. No instant is below the least number, which so stands for none.
+// All records, of which the instant of the one at `place`, from one, is kept: the fields stand in the file. No instant is below the least number, which so
+// stands for none.
 pub(crate) fn whole(file: &[u8], place: u32) -> Walk
     ensures { λ r. ⌜ Walks (now (file .entry)) place r ⌝ }
 {
@@ -82,21 +83,13 @@ pub(crate) fn whole(file: &[u8], place: u32) -> Walk
         ended: 0,
         last: i64::MIN,
     };
-    let mut kept = Taken {
-        fields: Fields {
-            start: 0,
-            length: 0,
-            channel: 0,
-            correction: 0,
-        },
-        instant: 0,
-    };
+    let mut kept = 0;
     let mut i = 0;
     while i < records {
         match step(file, regions, i, before) {
             Stepped::Taken(taken) => {
                 i += 1;
-                kept = choose(i == place, taken, kept);
+                kept = choose(i == place, taken.instant, kept);
                 let fields = taken.fields;
                 before = Before {
                     ended: fields.end(),

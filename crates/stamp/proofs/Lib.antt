@@ -1,4 +1,3 @@
 pub mod Choosing
 pub mod Decoding
 pub mod OneAnswer
-pub mod OwnKind

@@ -15,3 +15,4 @@ pub mod PuttingWords
 pub mod PuttingSigns
 pub mod Putting
 pub mod TextWriters
+pub mod LocalReadings

@@ -3,6 +3,7 @@
 mod cursor;
 mod fraction;
 mod lengths;
+mod locating;
 mod pairs;
 mod parts;
 mod reading;
@@ -10,6 +11,7 @@ mod words;
 mod writers;
 mod writing;
 
+pub use locating::locate_datetime_tz;
 pub use parts::is_sign;
 pub use reading::read_date;
 pub use reading::read_date_tz;

@@ -5,6 +5,7 @@
 --   Writes o lent r left    the promise of a writer that answers r
 --   Reads o r               the promise of a reader that answers r: what reading comes to (`read`, `readEither`), and nothing else
 --   Parses k o r            the same of a form's reader, of the kind k
+--   Locates o r             the same of a reader that makes no date: the local reading and the offset of it
 use Prim.Native.Nat.{ℕ}
 use mathlib.Core.Path.{_≡_}
 use mathlib.Core.List.{List}
@@ -16,8 +17,9 @@ use Rattle.format.specs.Buffer.{counts, leaves}
 use Rattle.format.specs.Promises.{numberOf, countOf}
 use Rattle.values.specs.declared.answers.Written.{Written}
 use Rattle.values.specs.declared.answers.Parsed.{Parsed}
+use Rattle.values.specs.declared.answers.Located.{Located}
 use Rattle.values.specs.declared.answers.Reading.{Reading}
-use Rattle.values.specs.Answers.{writtenNumber, writtenCount, reading, parsed}
+use Rattle.values.specs.Answers.{writtenNumber, writtenCount, reading, parsed, located, localIn}
 
 -- the number, the count and every octet of the buffer
 pub record Left (o : Outcome (List ℕ)) (lent : List ℕ) (n k : ℕ) (left : List ℕ) : Type 0 where
@@ -34,3 +36,7 @@ Reads o r = reading r ≡ o
 -- the same of a form's reader
 abbrev pub Parses : format.Kind → Outcome Answer → Parsed → Type 0
 Parses k o r = parsed k r ≡ o
+
+-- the same of a reader that makes no date
+abbrev pub Locates : Outcome Answer → Located → Type 0
+Locates o r = located r ≡ localIn o

@@ -3,6 +3,7 @@ use crate::DateTz;
 use crate::Datetime;
 use crate::DatetimeTz;
 use crate::Form;
+use crate::Offset;
 use crate::Refusal;
 use crate::Time;
 use crate::TimeTz;
@@ -66,4 +67,11 @@ pub enum Reading {
 pub enum Parsed {
     Stamp(Form, Value),
     Refused(Refusal),
+}
+
+// What a form's reader hands to `schedule` of a DatetimeTz whose date nobody asks for: its local reading, in microseconds from 0001-01-01T00:00 on its own
+// clock, and its offset. Between our own crates. The refusal stands first, as in the text's cursor: what follows an answer is inlined then.
+pub enum Located {
+    Refused(Refusal),
+    At(u64, Offset),
 }

@@ -11,6 +11,7 @@ pub use answers::DateTzAnswer;
 pub use answers::DatetimeAnswer;
 pub use answers::DatetimeTzAnswer;
 pub use answers::Decoded;
+pub use answers::Located;
 pub use answers::Parsed;
 pub use answers::Reading;
 pub use answers::TimeAnswer;

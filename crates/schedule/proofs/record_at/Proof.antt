@@ -1,10 +1,14 @@
 -- `record_at` meets its contract: the record that the walk over the whole file kept. Assumes nothing.
 use mathlib.Core.Path.{sym}
 use native.Mathlib.Omega.{arith}
+use mir.Syntax.{w64}
+use mir.Facts.{toZ-ofZ}
+use Rattle.format.specs.Octets.{Octets}
 use Rattle.schedule.specs.declared.walk.Walk.the-variants as W
 use Rattle.schedule.specs.Steps.{Walks}
-use Rattle.schedule.proofs.Finding.{asked-refused, few, before-first, behind-last, kept-small, asked-record}
-use borrow.Author.Needs.{needs}
+use Rattle.schedule.proofs.Finding.{asked-refused, few, before-first, behind-last, place-fits, asked-record}
+use Rattle.schedule.proofs.Stepping.{fields-small}
+use borrow.Author.Needs.{needs, sfits-of}
 use Rattle.schedule.proofs.record_at.Statement.{statement}
 use Rattle.schedule.proofs.record_at.Tie as tie
 
@@ -25,18 +29,32 @@ returns c = sym (before-first _ _ (walked (c .before) .0) _ (c .if1 .taken))
 returns-2 : tie.Need-returns-2
 returns-2 c = sym (behind-last _ _ (walked (c .before .before) .0) _ (c .if2 .taken))
 
+cast-fields-at : tie.Need-cast-fields-at
+cast-fields-at c = search needs
+
+fields-at-requires : tie.Need-fields-at-requires
+fields-at-requires c κs = place-fits _ _ (walked (c .before .before) .0) _ (omega (arith, c .before .if1 .left)) (omega (arith, c .if2 .left))
+
 in-file-requires : tie.Need-in-file-requires
 in-file-requires c κs =
-    let w = walked (c .before .before) in
-    (few _ _ (w .0), kept-small _ _ (w .0) _ _ (λ k. omega (arith, c .before .before .before .before .before .before .shared-slice-known .given k)) (omega (arith, c .before .if1 .left)) (omega (arith, c .if2 .left)) (w .1))
+    let w = walked (c .before .before .before) in
+    let s = c .before .before .before .before .before .before .before .before .args .file .now in
+    let o : Octets s = λ k. omega (arith, c .before .before .before .before .before .before .before .shared-slice-known .given k) in
+    (few _ _ (w .0), rw (c .fields-at .ensures) (fields-small s _ o .0))
 
 enum-known-refusal : tie.Need-enum-known-refusal
 enum-known-refusal c = search needs
 
 returns-3 : tie.Need-returns-3
 returns-3 c =
-    let w = walked (c .before .before .before) in
-    rw (c .in-file .ensures) (sym (asked-record _ _ (w .0) _ _ (omega (arith, c .before .before .if1 .left)) (omega (arith, c .before .if2 .left)) (w .1)))
+    let w = walked (c .before .before .before .before) in
+    let t = c .before .before .before .before .before .records in
+    rw (
+      c .in-file .ensures,
+      c .before .fields-at .ensures,
+      toZ-ofZ {w = w64} {z = t .given .0 .1 .0} (sfits-of (search needs)),
+    )
+    (sym (asked-record _ _ (w .0) _ _ (omega (arith, c .before .before .before .if1 .left)) (omega (arith, c .before .before .if2 .left)) (w .1)))
 
 returns-4 : tie.Need-returns-4
 returns-4 c =
@@ -53,6 +71,8 @@ record-at-spec =
     enum-known-records
     returns
     returns-2
+    cast-fields-at
+    fields-at-requires
     in-file-requires
     enum-known-refusal
     returns-3

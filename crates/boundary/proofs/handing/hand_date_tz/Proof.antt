@@ -3,7 +3,7 @@ use mathlib.Core.Path.{refl, sym, _∙_, ap}
 use native.Mathlib.Omega.{arith}
 use Rattle.format.specs.Values.{DateTz}
 use Rattle.values.specs.Answers.{reading}
-use Rattle.stamp.proofs.OwnKind.{no-other}
+use Rattle.boundary.proofs.Parts.{no-other}
 use borrow.Author.Needs.{needs}
 use Rattle.boundary.proofs.handing.hand_date_tz.Statement.{statement}
 use Rattle.boundary.proofs.handing.hand_date_tz.Tie as tie

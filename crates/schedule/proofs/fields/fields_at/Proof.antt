@@ -1,9 +1,7 @@
 -- `fields_at` meets its contract: the word taken apart is the first three fields. Assumes nothing.
-use mathlib.Core.Path.{_≡_}
 use native.Mathlib.Omega.{arith}
 use Prim.Native.Nat.{_+_, _*_}
 use mir.Facts.{toZ-ofZ}
-use borrow.Author.Needs.{sfits-of}
 use Rattle.format.specs.Octets.{Octets}
 use Rattle.card.specs.Records.{startAt, lengthAt, channelAt, correctionAt}
 use Rattle.schedule.proofs.Words.{word-first, word-next, word-last}

@@ -7,7 +7,7 @@ use lib.Dec.{eqb, leb}
 use borrow.Author.Tests.{eq-eqb, ne-eqb, eqb-true, le-leb}
 use Rattle.format.specs.Words.{both}
 use Rattle.format.proofs.Cases.{both-false}
-use Rattle.schedule.specs.Steps.{placed}
+use Rattle.card.specs.Step.{placed}
 use Rattle.schedule.proofs.fields.is_placed.Statement.{statement}
 use Rattle.schedule.proofs.fields.is_placed.Tie as tie
 

@@ -1,10 +1,9 @@
 -- `read` of the header meets its contract: its tests are those of the header described. Assumes nothing.
-use mathlib.Core.Path.{_≡_, sym, ap, _∙_}
-use mathlib.Core.List.{List}
-use Prim.Native.Nat.{ℕ, _+_, _*_}
+use mathlib.Core.Path.{sym, ap, _∙_}
+use Prim.Native.Nat.{_+_, _*_}
 use native.Mathlib.Omega.{arith}
 use Rattle.card.specs.Header.{twelve, countOf, stampOctets, stampsStart}
-use Rattle.card.proofs.Accepting.{header-is, not-good}
+use Rattle.card.proofs.Exactly.{header-is, not-good}
 use borrow.Author.Needs.{needs}
 use Rattle.schedule.proofs.header.read.Statement.{statement}
 use Rattle.schedule.proofs.header.read.Tie as tie

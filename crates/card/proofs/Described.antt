@@ -1,4 +1,4 @@
--- A schedule file as request 4 describes it, over places: a word for each sentence of 02, and nothing of reading.
+-- A schedule file as request 4 describes it, over places, for the laws: `claims/specs/Schedule.antt` has the same in the numbers of 02. Assumes nothing.
 --
 --   HeaderDescribed f s      the header, the counts and the regions
 --   RecordDescribed f s i    record i by itself: ranges, its stamp within the region and accepted by the reader of DatetimeTz

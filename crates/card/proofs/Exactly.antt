@@ -20,7 +20,7 @@ use Rattle.card.specs.Header.{RecordForm, countOf, stampOctets, stampsSt
 use Rattle.card.specs.Records.{Record, recordAt, instantAt}
 use Rattle.card.specs.Step.{atFront}
 use Rattle.card.specs.Reading.{Walked, taken, fault, walk, walkFile, never, upTo, records, numbered, fullReading}
-use Rattle.card.specs.Described.{HeaderDescribed, Described}
+use Rattle.card.proofs.Described.{HeaderDescribed, Described}
 use Rattle.card.specs.Records.{recordsOf}
 use Rattle.card.proofs.Tests.{either-told, leZ-refl, leZ-trans}
 use Rattle.card.proofs.Walking.{AllGood, records-length, up-to-never, walk-good, good-walk}
