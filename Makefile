@@ -1,4 +1,4 @@
-# make            the library, libstamp.a and libstamp.so.1.3, and the tool build/stamp, for this machine
+# make            the library, libstamp.a and libstamp.so.1.4, and the tool build/stamp, for this machine
 # make test       the gate
 # make install    library, header, stamp.pc, tool and man page, under PREFIX, the library in LIBDIR; all below DESTDIR if there is one
 # make uninstall  takes away what make install puts there, given the same words
@@ -15,6 +15,7 @@ SONAME := libstamp.so.$(firstword $(subst ., ,$(RELEASE)))
 PROOFS := $(shell find crates crates.txt -type f)
 HEADER := include/stamp.h
 TOOL := $(wildcard tool/*.c)
+HEADER_TESTS := $(wildcard tool/tests/header*.c)
 MASS := $(wildcard mass/*.c) $(wildcard second/fast_*.c)
 COMPILE = $(CC) -std=c99 -O2 -Wall -Wextra $(CFLAGS) -Iinclude
 
@@ -77,11 +78,11 @@ able:
 	@packaging/needs tests $(CC)
 
 # What the gate runs: the header's tests as C and as C++, and the tool under the address and undefined-behaviour sanitizers.
-build/header: tool/tests/header.c $(HEADER) libstamp.a | build
-	$(COMPILE) $< libstamp.a $(LDFLAGS) -o $@
+build/header: $(HEADER_TESTS) tool/tests/header.h $(HEADER) libstamp.a | build
+	$(COMPILE) $(HEADER_TESTS) libstamp.a $(LDFLAGS) -o $@
 
-build/header-c++: tool/tests/header.c $(HEADER) libstamp.a | build
-	$(CXX) -x c++ -std=c++17 -O2 -Wall -Wextra -Iinclude $< -x none libstamp.a $(LDFLAGS) -o $@
+build/header-c++: $(HEADER_TESTS) tool/tests/header.h $(HEADER) libstamp.a | build
+	$(CXX) -x c++ -std=c++17 -O2 -Wall -Wextra -Iinclude $(HEADER_TESTS) -x none libstamp.a $(LDFLAGS) -o $@
 
 build/stamp-sanitized: $(TOOL) $(wildcard tool/*.h) $(HEADER) libstamp.a | build
 	$(COMPILE) -g -O1 -fsanitize=address,undefined -fno-sanitize-recover=all $(TOOL) libstamp.a -o $@

@@ -1,18 +1,18 @@
 /* stamp.h - reads and writes date-and-time stamps (BDE BER date-and-time format), for C99 and C++.
  *
  * A stamp is the contents octets of one of six kinds in one of three forms. Identifier and length octets are the
- * caller's. The library (libstamp.a, libstamp.so) exports nine functions: stamp_write and stamp_read for stamps,
+ * caller's. The library (libstamp.a, libstamp.so) exports ten functions: stamp_write and stamp_read for stamps,
  * stamp_instant, stamp_add, stamp_difference, stamp_at and stamp_restate for their UTC instants, and
- * stamp_schedule_read and stamp_schedule_record for schedule files. All else here is a constant, a struct, or a small
- * inline function over these.
+ * stamp_schedule_read, stamp_schedule_record and stamp_schedule_holds for schedule files. All else here is a constant,
+ * a struct, or a small inline function over these.
  *
  *     uint8_t lent[STAMP_LONGEST_IMAGE];
  *     size_t count;
  *     stamp_value night = stamp_datetimetz(2019, 12, 31, stamp_micros(23, 59, 59, 999999), -270);
  *     uint32_t refusal = stamp_encode(&night, stamp_default_settings(), lent, sizeof lent, &count);
  *
- * Every call takes any input and answers: a refusal number, 0 for none. After a refusal nothing has changed but
- * *count and *records, which are 0, and *fault, which is the place of the bad record: a lent buffer and a lent answer
+ * Every call takes any input and answers: a refusal number, 0 for none. After a refusal nothing has changed but *count,
+ * *records and *read, which are 0, and *fault, which is the place of the bad record: a lent buffer and a lent answer
  * stay as they were. An octet past an accepted image stays too.
  * Nothing is allocated and nothing is kept between calls (no global state), so calls from several threads
  * need no lock; each thread lends its own buffers. A pointer to no octets (length or room 0) may be null; no other.
@@ -28,7 +28,7 @@
 #include <stdbool.h>
 #endif
 
-#define STAMP_RELEASE "1.3"
+#define STAMP_RELEASE "1.4"
 
 /* ---- Kinds, forms, limits ---- */
 
@@ -81,18 +81,20 @@ enum {
 #define STAMP_MAX_RECORDS 1000
 #define STAMP_MAX_CHANNEL 16           /* channels are 1 to 16 */
 #define STAMP_MAX_CORRECTION 1000000   /* parts in 10 to the 18, or as much below 0 */
-#define STAMP_LONGEST_SCHEDULE 44016   /* octets: no accepted file is longer */
+#define STAMP_LONGEST_SCHEDULE 44016   /* octets: no file that stamp_schedule_read accepts is longer */
+#define STAMP_NONE_YET 0               /* for a place: no record of the channel holds yet */
 
 /* ---- Refusals ---- */
 
 /* The one place of each refusal's name, number and sentence; the tool and the man page say the same words. Writers
  * give 1 to 4, readers 5 to 8, the calls on instants 2 and 9, those on schedules 13 to 15, 5 to 8 for a stamp in the
- * file, and 2 for a place; always the first that applies. A kind number that is no kind is 2, in reading too. 10 to 12
- * are not used yet. */
+ * file, and 2 for a place or a channel; always the first that applies. A kind number that is no kind is 2, in reading
+ * too. 10 to 12 are not used yet. */
 #define STAMP_REFUSALS(X) \
     X(STAMP_REFUSED_DIGITS, 1, "the digits setting is above 6") \
     X(STAMP_REFUSED_VALUE, 2, "a part of the value or an offset is out of range, there is no such day, " \
-                              "no stamp has such an instant, or the schedule has no such record") \
+                              "no stamp has such an instant, the schedule has no such record, " \
+                              "or no channel has such a number") \
     X(STAMP_REFUSED_NO_COMPACT, 3, "the value is too late to have a compact form") \
     X(STAMP_REFUSED_BUFFER, 4, "the buffer is shorter than the stamp") \
     X(STAMP_REFUSED_LENGTH, 5, "the length is not one that the chosen form of this kind can have") \
@@ -166,6 +168,16 @@ uint32_t stamp_schedule_read(const uint8_t *file, size_t length, uint32_t *recor
  * refusals; then 2 for a place that the file hasn't. Each call reads the whole file. stamp_record_at is the same with
  * names. */
 uint32_t stamp_schedule_record(const uint8_t *file, size_t length, uint32_t place, int64_t parts[5]);
+
+/* Which correction holds on a channel at an instant: that of the last record of the channel at or before the instant,
+ * which may be any number. The file is read from the front, up to the first record later than the instant; that one is
+ * read too, and those behind it are not looked at. Answers the refusal number, 0 for none. *read is the number of
+ * records read: the place of that later record, from one, or all; and 0 after a refusal. parts: place of the record
+ * that holds, from one, start of its stamp within the file, its length, instant, correction. If none holds yet, the
+ * place is STAMP_NONE_YET, and all five are 0. All five stay as lent after a refusal. 2 for a channel that is not 1 to
+ * 16; then those of stamp_schedule_read by the header and the records read. stamp_held_at is the same with names. */
+uint32_t stamp_schedule_holds(const uint8_t *file, size_t length, int64_t instant, uint32_t channel, uint32_t *read,
+                              int64_t parts[5]);
 
 #ifdef __cplusplus
 }
@@ -363,6 +375,31 @@ static inline uint32_t stamp_record_at(const uint8_t *file, size_t length, uint3
     found->instant = parts[2];
     found->start = (size_t)parts[3];
     found->length = (size_t)parts[4];
+    return STAMP_ACCEPTED;
+}
+
+/* What holds on a channel at an instant. */
+typedef struct stamp_held {
+    uint32_t read;                     /* the number of records read */
+    uint32_t place;                    /* of the record that holds, from one; STAMP_NONE_YET, and 0 below: none does */
+    size_t start, length;              /* of its stamp within the file */
+    int64_t instant;                   /* of its stamp: the correction holds from then on */
+    int32_t correction;                /* parts in 10 to the 18 */
+} stamp_held;
+
+/* stamp_schedule_holds. After a refusal found->read is 0, and the rest stays as lent. */
+static inline uint32_t stamp_held_at(const uint8_t *file, size_t length, int64_t instant, uint32_t channel,
+                                     stamp_held *found)
+{
+    int64_t parts[5] = {0};
+    uint32_t refusal = stamp_schedule_holds(file, length, instant, channel, &found->read, parts);
+    if (refusal != STAMP_ACCEPTED)
+        return refusal;
+    found->place = (uint32_t)parts[0];
+    found->start = (size_t)parts[1];
+    found->length = (size_t)parts[2];
+    found->instant = parts[3];
+    found->correction = (int32_t)parts[4];
     return STAMP_ACCEPTED;
 }
 

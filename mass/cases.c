@@ -96,13 +96,18 @@ static lent_parts lend_parts(void)
     return made;
 }
 
-/* Both answers to a call that fills so many parts; after a refusal it fills none, whatever both say. */
-static bool print_parts(uint32_t refusal, uint32_t library, const lent_parts *lent, int filled)
+/* Whether the answers to a call that fills so many parts differ; after a refusal it fills none, whatever both say. */
+static bool differ(uint32_t refusal, uint32_t library, const lent_parts *lent, int filled)
 {
     lent_parts kept = lend_parts();
     if (refusal == 0)
         memcpy(kept.library + 1, lent->second + 1, (size_t)filled * sizeof kept.library[0]);
-    differences += library != refusal || memcmp(lent->library, kept.library, sizeof kept.library) != 0;
+    return library != refusal || memcmp(lent->library, kept.library, sizeof kept.library) != 0;
+}
+
+static bool print_parts(uint32_t refusal, uint32_t library, const lent_parts *lent, int filled)
+{
+    differences += differ(refusal, library, lent, filled);
     printf("%" PRIu32, refusal);
     for (int i = 1; i <= filled && refusal == 0; i++)
         printf(" %" PRId64, lent->second[i]);
@@ -196,6 +201,34 @@ static bool schedule_record_case(const char *line)
     return print_parts(refusal, stamp_schedule_record(file, length, place, lent.library + 1), &lent, 5);
 }
 
+/* The number of records read, then the parts; where the place is that of none, a word in place of them. */
+static void print_held(uint32_t refusal, uint32_t read, const int64_t parts[5])
+{
+    printf("%" PRIu32, refusal);
+    if (refusal == 0)
+        printf(" %" PRIu32 "%s", read, parts[0] == STAMP_NONE_YET ? " none" : "");
+    for (int i = 0; i < 5 && refusal == 0 && parts[0] != STAMP_NONE_YET; i++)
+        printf(" %" PRId64, parts[i]);
+    printf("\n");
+}
+
+static bool schedule_holds_case(const char *line)
+{
+    static uint8_t file[LONGEST_FILE_CASE];
+    int64_t instant;
+    uint32_t channel, read = LENT, library_read = LENT;
+    int before;
+    lent_parts lent = lend_parts();
+    if (sscanf(line, "Q %" SCNd64 " %" SCNu32 " %n", &instant, &channel, &before) != 2)
+        return false;
+    size_t length = take_hex(line + before, file, sizeof file);
+    uint32_t refusal = fast_schedule_holds(file, length, instant, channel, &read, lent.second + 1);
+    uint32_t library = stamp_schedule_holds(file, length, instant, channel, &library_read, lent.library + 1);
+    differences += differ(refusal, library, &lent, 5) || library_read != read;
+    print_held(refusal, read, lent.second + 1);
+    return true;
+}
+
 /* False for a line that is no case. */
 static bool answer_case(const char *line)
 {
@@ -209,6 +242,7 @@ static bool answer_case(const char *line)
     case 'S': return restate_case(line);
     case 'F': return schedule_read_case(line);
     case 'P': return schedule_record_case(line);
+    case 'Q': return schedule_holds_case(line);
     default: return false;
     }
 }

@@ -10,7 +10,7 @@
 #define LONGEST_TRIED 40               /* octets lent or read at most */
 #define LONGEST_FILE 65600             /* octets of a schedule file: the longest stamp that a record tells of fits */
 #define DIFFERENCES_KEPT 20
-#define DIFFERENCE_ROOM 1200           /* characters of one difference, printed whole */
+#define DIFFERENCE_ROOM 1500           /* characters of one difference, printed whole */
 #define OTHER_ANSWER (STAMP_LAST_REFUSAL + 1) /* counts answers that are no refusal number */
 
 typedef struct image {
@@ -26,7 +26,7 @@ typedef struct card {
 
 typedef enum asked {
     ASKED_WRITE, ASKED_READ, ASKED_INSTANT, ASKED_ADD, ASKED_DIFFERENCE, ASKED_AT, ASKED_RESTATE, ASKED_SCHEDULE_READ,
-    ASKED_SCHEDULE_RECORD
+    ASKED_SCHEDULE_RECORD, ASKED_SCHEDULE_HOLDS
 } asked;
 
 /* The input of one call; what another would be asked is left as it was. */
@@ -37,9 +37,10 @@ typedef struct call {
     stamp_settings settings;
     size_t room;
     image read;
-    int64_t a, b;                      /* an instant and what is added to it, or two instants */
+    int64_t a, b;                      /* an instant and what is added to it, or two instants; a: what is asked at */
     int32_t to;                        /* the offset at which an instant or a stamp is asked for */
     uint32_t place;                    /* of a record in the file */
+    uint32_t channel;                  /* for which it is asked what holds */
     card file;
 } call;
 
@@ -53,7 +54,8 @@ typedef struct tally {
     volatile uint64_t units_done;
     uint64_t unit;                     /* at work */
     uint64_t checks, failed;
-    uint64_t again;                    /* checks that wrote again what was read, or asked a result for its instant */
+    uint64_t again;                    /* checks that wrote again what was read, asked a result for its instant, or
+                                        * asked a file again with other octets where it was not read */
     uint64_t answers[OTHER_ANSWER + 1];
     size_t differences;
     difference kept[DIFFERENCES_KEPT];
@@ -101,5 +103,9 @@ bool check_schedule_read(const card *file);
 
 /* The record at a place. */
 void check_schedule_record(const card *file, uint32_t place);
+
+/* Which correction holds. Where it was answered and records are left unread, it is asked again with other octets in
+ * place of these and of their stamps, and must have the same answer. */
+void check_schedule_holds(const card *file, int64_t instant, uint32_t channel);
 
 #endif

@@ -1,12 +1,11 @@
-/* The calls on schedules. */
+/* The calls on schedules that read a whole file. */
 #include "check.h"
 
-#include <string.h>
+#include <stddef.h>
 
 #include "../second/fast.h"
 #include "counting.h"
 
-#define LENT_NUMBER 0xA5A5A500u        /* what is in a number before the call: far from every answer */
 #define NUMBERS_LENT 5
 
 /* ---- Full reading ---- */
@@ -42,12 +41,6 @@ static const char *wrong_in_whole(const whole_answer *library, const whole_answe
     return NULL;
 }
 
-/* The octets that were lent are those of the file. */
-static bool file_is_as_lent(const uint8_t *lent)
-{
-    return lent == NULL || memcmp(lent, now->last.file.octets, now->last.file.length) == 0;
-}
-
 /* One check, of the file at `lent`; true where it was accepted, and rightly. */
 static bool read_checked(const uint8_t *lent)
 {
@@ -69,17 +62,6 @@ static bool read_checked(const uint8_t *lent)
         say_whole(&said, "second: ", &second);
     }
     return false;
-}
-
-/* The file as it is lent to the library. */
-static const uint8_t *note_file(asked which, const card *file)
-{
-    uint8_t *lent = fence() - file->length;
-    memcpy(lent, file->octets, file->length);
-    now->last.which = which;
-    now->last.file.length = file->length;
-    memcpy(now->last.file.octets, file->octets, file->length);
-    return lent;
 }
 
 bool check_schedule_read(const card *file)

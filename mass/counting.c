@@ -81,3 +81,18 @@ uint8_t *fence(void)
     found = pages + room;
     return found;
 }
+
+const uint8_t *note_file(asked which, const card *file)
+{
+    uint8_t *lent = fence() - file->length;
+    memcpy(lent, file->octets, file->length);
+    now->last.which = which;
+    now->last.file.length = file->length;
+    memcpy(now->last.file.octets, file->octets, file->length);
+    return lent;
+}
+
+bool file_is_as_lent(const uint8_t *lent)
+{
+    return lent == NULL || memcmp(lent, now->last.file.octets, now->last.file.length) == 0;
+}

@@ -1,5 +1,5 @@
-/* What the compared calls share: where they are counted, how a difference is kept, how parts are lent and held, and
- * where an input ends. */
+/* What the compared calls share: where they are counted, how a difference is kept, how parts and files are lent and
+ * held, and where an input ends. */
 #ifndef MASS_COUNTING_H
 #define MASS_COUNTING_H
 
@@ -24,5 +24,11 @@ const char *wrong_in_parts(const parts_answer *library, const parts_answer *seco
 /* The end of memory that may be read; what lies behind it may not be touched. An input ends there, so that a reader
  * that looks past its input is stopped. There is room for LONGEST_FILE octets before it. */
 uint8_t *fence(void);
+
+/* Notes the call and its file; the file as it is to be lent to the library. */
+const uint8_t *note_file(asked which, const card *file);
+
+/* The octets that were lent, or none, are those of the file that was noted. */
+bool file_is_as_lent(const uint8_t *lent);
 
 #endif

@@ -78,6 +78,10 @@ void say_call(words *to, const call *made)
         say(to, "schedule record, place %" PRIu32 ", ", made->place);
         say_file(to, &made->file);
         break;
+    case ASKED_SCHEDULE_HOLDS:
+        say(to, "schedule holds, instant %" PRId64 ", channel %" PRIu32 ", ", made->a, made->channel);
+        say_file(to, &made->file);
+        break;
     }
     say(to, "\n");
 }
@@ -104,6 +108,7 @@ static const char *const part_names[][9] = {
     [ASKED_RESTATE] = {"year", "month", "day", "micros", "offset"},
     [ASKED_SCHEDULE_READ] = {NULL},
     [ASKED_SCHEDULE_RECORD] = {"channel", "correction", "instant", "start", "length"},
+    [ASKED_SCHEDULE_HOLDS] = {"place", "start", "length", "instant", "correction"},
 };
 
 int parts_filled(asked which)
@@ -131,6 +136,12 @@ void say_whole(words *to, const char *who, const whole_answer *answer)
 {
     say(to, "  %s refusal %" PRIu32 ", records %" PRIu32 ", fault %" PRIu32 "\n", who, answer->refusal,
         answer->numbers[RECORDS], answer->numbers[FAULT]);
+}
+
+void say_held(words *to, const char *who, const held_answer *answer)
+{
+    say_parts(to, who, ASKED_SCHEDULE_HOLDS, &answer->record);
+    say(to, "           records read %" PRIu32 "\n", answer->numbers[RECORDS_READ]);
 }
 
 void say_wanted_instant(words *to, int64_t instant)

@@ -116,6 +116,7 @@ void make_card(card *to, uint32_t records, chance *by)
     const size_t stamps = record_at(records + 1);
     const int64_t grain = PICK(by, grains);
     const uint32_t early = chance_once_in(by, 8) ? 2 + (uint32_t)chance_below(by, 3) : 0;
+    const uint64_t channels = chance_once_in(by, 2) ? 1 + chance_below(by, 3) : STAMP_MAX_CHANNEL;
     int64_t instant = first_instant(grain, by), before = instant;
     size_t start = 0;
     for (uint32_t place = 1; place <= records; place++) {
@@ -124,7 +125,7 @@ void make_card(card *to, uint32_t records, chance *by)
         const size_t length = put_stamp(to->octets + stamps + start, told, grain, by);
         put_number(to, at + START_AT, start, 4);
         put_number(to, at + LENGTH_AT, length, 2);
-        put_number(to, at + CHANNEL_AT, 1 + chance_below(by, STAMP_MAX_CHANNEL), 2);
+        put_number(to, at + CHANNEL_AT, 1 + chance_below(by, channels), 2);
         put_number(to, at + CORRECTION_AT, some_correction(by), 4);
         start += length;
         before = instant;

@@ -18,7 +18,8 @@ void put_number(card *in, size_t at, uint64_t number, int octets);
 
 void copy_card(card *to, const card *from);
 
-/* A file of so many records, at most 1,001: right in all, but once in a while one of its stamps is too early. */
+/* A file of so many records, at most 1,001: right in all, but once in a while one of its stamps is too early. Half of
+ * the files have one to three channels. */
 void make_card(card *to, uint32_t records, chance *by);
 
 /* One change to a file that was made with so many records, and may have been changed since. */

@@ -53,13 +53,13 @@ static void list_parts(part parts[PARTS], uint64_t rounds)
         {"instants", "stamps, instants, offsets and numbers, right and wrong, to all five calls", try_random_instants,
          units, "0 2 9"},
         {"headers", "schedule files with every number of the header wrong in many ways", try_headers, HEADER_UNITS,
-         "0 13 14"},
+         "0 2 13 14"},
         {"cards", "every octet of small schedule files as every octet", try_cards, CARD_UNITS,
          "0 2 5 6 7 8 13 14 15"},
         {"thousands", "schedule files of about a thousand records, whole and changed; long stamps", try_thousands,
          THOUSAND_UNITS, "0 2 5 6 7 8 13 14 15"},
-        {"schedule", "schedule files of few records, whole and changed, and their records", try_schedule, units,
-         "0 2 5 6 7 8 13 14 15"},
+        {"schedule", "schedule files of few records, whole and changed, their records and what holds", try_schedule,
+         units, "0 2 5 6 7 8 13 14 15"},
     };
     memcpy(parts, list, sizeof list);
 }
@@ -120,8 +120,8 @@ static int compare(uint64_t seed, uint64_t rounds, int workers, const char *only
     }
     if (checks == 0)
         fprintf(stderr, "mass: no part has that name\n");
-    printf("\nseed %" PRIu64 ", %" PRIu64 " rounds; \"again\" are the checks that wrote again what was read, or asked "
-           "a result for its instant\n", seed, rounds);
+    printf("\nseed %" PRIu64 ", %" PRIu64 " rounds; \"again\" are the checks that wrote again what was read, asked a "
+           "result for its instant, or asked a file with other octets where it was not read\n", seed, rounds);
     print_heading();
     for (int i = 0; i < PARTS; i++)
         if (counted[i].checks > 0)

@@ -1,8 +1,9 @@
 /* Schedule files: headers with every number wrong in many ways, every octet of small files, files of a thousand
- * records, and files changed by chance. */
+ * records, and files changed by chance; all of them also asked which correction holds. */
 #include "check.h"
 #include "make_card.h"
 #include "parts.h"
+#include "question.h"
 
 #include <string.h>
 
@@ -38,9 +39,11 @@ void try_headers(uint64_t unit, chance *by)
 {
     static const int lengths[HEADER_LENGTHS] = {0, 1, -1, 12, -12, 4, -4};
     static card made;
+    static outline asked_of;
     const uint32_t records = (uint32_t)(unit % HEADER_CARDS);
     const int longer = lengths[unit / HEADER_CARDS % HEADER_LENGTHS];
     make_card(&made, records, by);
+    take_outline(&asked_of, &made, records);
     const uint64_t stamp_octets = card_number(&made, STAMP_OCTETS_AT, 4);
     const uint64_t count = told(records, RECORDS_THAT_WRAP, (size_t)(unit / HEADER_CARDS / HEADER_LENGTHS));
     memset(made.octets + made.length, 0, 12);
@@ -55,6 +58,7 @@ void try_headers(uint64_t unit, chance *by)
             for (size_t k = 0; k < HEADER_WAYS; k++) {
                 put_number(&made, STAMP_OCTETS_AT, told(stamp_octets, made.length - stamps_at, k), 4);
                 check_schedule_read(&made);
+                ask_somewhere(&made, &asked_of, by);
             }
         }
     }
@@ -66,15 +70,19 @@ void try_headers(uint64_t unit, chance *by)
 void try_cards(uint64_t unit, chance *by)
 {
     static card made;
+    static outline asked_of;
     const uint32_t records = (uint32_t)(unit % SMALL_CARDS);
     make_card(&made, records, by);
+    take_outline(&asked_of, &made, records);
     check_schedule_read(&made);
     ask_places(&made, records);
+    ask_everywhere(&made, &asked_of, 1);
     for (size_t at = 0; at < made.length; at++) {
         const uint8_t was = made.octets[at];
         for (int octet = 0; octet <= 255; octet++) {
             made.octets[at] = (uint8_t)octet;
             check_schedule_read(&made);
+            ask_somewhere(&made, &asked_of, by);
         }
         check_schedule_record(&made, records);
         made.octets[at] = was;
@@ -84,6 +92,7 @@ void try_cards(uint64_t unit, chance *by)
     for (made.length = 0; made.length <= length + 40; made.length++) {
         check_schedule_read(&made);
         check_schedule_record(&made, 1);
+        ask_somewhere(&made, &asked_of, by);
     }
 }
 
@@ -106,6 +115,7 @@ static void try_long_stamps(void)
         made.length = record_at(2) + lengths[i];
         check_schedule_read(&made);
         check_schedule_record(&made, 1);
+        check_schedule_holds(&made, 0, 1);
         made.length--;
         check_schedule_read(&made);
     }
@@ -115,16 +125,20 @@ static void try_long_stamps(void)
 void try_thousands(uint64_t unit, chance *by)
 {
     static card made, changed;
+    static outline asked_of;
     static const uint32_t counts[] = {999, 1000, 1001};
     const uint32_t records = unit % 4 < 3 ? counts[unit % 4] : 4 + (uint32_t)chance_below(by, 997);
     make_card(&made, records, by);
+    take_outline(&asked_of, &made, records);
     check_schedule_read(&made);
+    ask_everywhere(&made, &asked_of, 199);
     for (uint32_t place = records - 1; place <= records + 1; place++)
         check_schedule_record(&made, place);
     for (int round = 0; round < 40; round++) {
         copy_card(&changed, &made);
         change_card(&changed, records, by);
         check_schedule_read(&changed);
+        ask_somewhere(&changed, &asked_of, by);
         if (round % 4 == 0)
             check_schedule_record(&changed, 1 + (uint32_t)chance_below(by, records));
     }
@@ -138,19 +152,24 @@ void try_thousands(uint64_t unit, chance *by)
 void try_schedule(uint64_t unit, chance *by)
 {
     static card made, changed;
+    static outline asked_of;
     uint32_t records = 0;
     (void)unit;
     for (int round = 0; round < CHANCE_ROUNDS; round++) {
         if (round % 25 == 0) {
             records = (uint32_t)chance_below(by, 7);
             make_card(&made, records, by);
+            take_outline(&asked_of, &made, records);
             if (check_schedule_read(&made))
                 ask_places(&made, records);
+            if (chance_once_in(by, 4))
+                ask_everywhere(&made, &asked_of, 1);
         }
         copy_card(&changed, &made);
         for (uint64_t changes = 1 + chance_below(by, 3); changes > 0; changes--)
             change_card(&changed, records, by);
         check_schedule_read(&changed);
+        ask_somewhere(&changed, &asked_of, by);
         if (chance_once_in(by, 4))
             check_schedule_record(&changed, (uint32_t)chance_below(by, records + 2));
     }

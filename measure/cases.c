@@ -172,6 +172,32 @@ static bool answer_record(const char *line)
     return print_given(plain_schedule_record(octets, length, place, lent.numbers), &lent, 5);
 }
 
+/* The number of records read stands before what holds, or before `none`: then all that is given is 0. */
+static bool answer_holds(const char *line)
+{
+    static const int64_t nothing[5];
+    int64_t instant;
+    uint32_t channel, read, number;
+    int hex;
+    size_t length;
+    given lent = lent_numbers();
+    if (sscanf(line, "Q %" SCNd64 " %" SCNu32 " %n", &instant, &channel, &hex) != 2
+        || !take_octets(line + hex, &length))
+        return false;
+    number = plain_schedule_holds(octets, length, instant, channel, &read, lent.numbers);
+    if (number != 0)
+        return read == 0 && print_given(number, &lent, 0);
+    if (memcmp(lent.numbers, nothing, sizeof nothing) == 0) {
+        printf("0 %" PRIu32 " none\n", read);
+        return true;
+    }
+    if (lent.numbers[0] == 0)
+        return false;
+    printf("0 %" PRIu32 " %" PRId64 " %" PRId64 " %" PRId64 " %" PRId64 " %" PRId64 "\n", read, lent.numbers[0],
+           lent.numbers[1], lent.numbers[2], lent.numbers[3], lent.numbers[4]);
+    return true;
+}
+
 static bool answer(const char *line)
 {
     switch (line[0]) {
@@ -184,6 +210,7 @@ static bool answer(const char *line)
     case 'S': return answer_restate(line);
     case 'F': return answer_schedule(line);
     case 'P': return answer_record(line);
+    case 'Q': return answer_holds(line);
     default: return false;
     }
 }

@@ -73,4 +73,12 @@ uint32_t plain_schedule_read(const uint8_t *file, size_t length, uint32_t *recor
  * instant, start of the stamp within the file, its length; as lent after a refusal. */
 uint32_t plain_schedule_record(const uint8_t *file, size_t length, uint32_t place, int64_t parts[5]);
 
+/* The last record of a channel at or before an instant. The file is read from the front, and no further than the first
+ * record later than the instant, which is read too. The refusal number: 2 for no such channel, then the file's by the
+ * header and the records read. *read is the number of these, and 0 after a refusal. Parts: place of the record, from
+ * one, start of the stamp within the file, its length, instant, correction; all 0 where no record holds yet; as lent
+ * after a refusal. */
+uint32_t plain_schedule_holds(const uint8_t *file, size_t length, int64_t instant, uint32_t channel, uint32_t *read,
+                              int64_t parts[5]);
+
 #endif

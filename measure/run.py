@@ -87,7 +87,10 @@ def section(about, rows, runs, load):
         f"- Compiler: the kit's {about['compiler']}, for both.",
         f"- How: {len(runs)} processes, one after the other. In each, {int(about['values']):,} values a row, ours and plain in turns, {about['turns']} "
         'turns; a time is the median of the turns, and here the median of the processes. Both give the same answers to these values, or nothing is '
-        f"measured. A row of schedules reads {about['files']} files of 1,000 records, and its times are nanoseconds a record.",
+        f"measured. A row of schedules reads {about['files']} files of 1,000 records, and its times are nanoseconds a record. A row of which "
+        f"correction holds asks it of {about['files']} such files, or of files of 10 records, at the instant of the record named and on channels by "
+        'chance: the record behind that one, if there is one, is the last that is read. It has as many questions as other rows have values, or fewer '
+        'where each of them reads many records; its times are nanoseconds a call.',
         f'- Ratio: ours by plain, the median of the processes, among which it moved by {100 * median(spreads):.0f} % at the median row, by '
         f'{100 * spreads[-1]:.0f} % at the worst. Above {SLOWER} ours is slower; between 1 and {SLOWER} the difference may be chance.',
         '',

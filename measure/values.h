@@ -10,12 +10,15 @@
 enum { VALUES = 4096 };
 enum { LAST_NUMBER = 3652058, LAST_COMPACT_YEAR = 6428 };
 enum { FILES = 4, RECORDS = FILES * STAMP_MAX_RECORDS };    /* as many records in all as there are values, nearly */
+enum { MOST_READ = 32768 };             /* records that the questions of one pass read, about */
 
-/* A kind to write or read, in a form. */
+/* A kind to write or read, in a form; or a schedule of such stamps. */
 typedef struct {
     uint32_t kind;                      /* one of the nine: an either-or reader has samples of both its kinds */
     uint32_t form;
     uint32_t digits;                    /* of a text */
+    uint32_t records;                   /* of a schedule */
+    uint32_t place;                     /* of the record that a question is asked at, from one */
 } stamps;
 
 typedef struct {
@@ -33,15 +36,23 @@ typedef struct {
     int32_t to;                         /* an offset to restate the value at */
 } moment;
 
-/* A schedule file, of as many records as there may be. */
+/* A schedule file. */
 typedef struct {
     uint8_t octets[STAMP_LONGEST_SCHEDULE];
     size_t length;
 } schedule;
 
+/* Which correction holds. */
+typedef struct {
+    const schedule *of;
+    int64_t instant;
+    uint32_t channel;
+} question;
+
 static sample samples[VALUES];
 static moment moments[VALUES];
 static schedule schedules[FILES];
+static question questions[VALUES];
 
 /* Fixed seed: every process measures the same values. */
 static uint64_t chance(uint64_t below)
@@ -77,7 +88,8 @@ static void expect_accepted(uint32_t refusal)
 static stamp_settings settings_for(const stamps *r)
 {
     const bool extended = r->form == STAMP_EXTENDED;
-    return stamp_make_settings(r->form != STAMP_TEXT, extended ? STAMP_EXTENDED_FROM : 0, extended ? STAMP_MAX_DIGITS : r->digits);
+    return stamp_make_settings(r->form != STAMP_TEXT, extended ? STAMP_EXTENDED_FROM : 0,
+                               extended ? STAMP_MAX_DIGITS : r->digits);
 }
 
 /* No kind has an offset of zero here: compact, it would be written as the plain kind. */
@@ -135,13 +147,14 @@ static size_t put_stamp(uint8_t *octets, int64_t instant, const stamps *r)
     return length;
 }
 
-/* From a day in 2020 to 2029 on, some six weeks: the records are up to two hours apart, and of sites at any offset. */
+/* From a day in 2020 to 2029 on, with 1,000 records some six weeks: they are up to two hours apart, and of sites at any
+ * offset. */
 static void fill_schedule(schedule *s, const stamps *r)
 {
     const uint64_t day = 50 * 365 + 13 + chance(10 * 365);
     int64_t instant = STAMP_UNIX_EPOCH + (int64_t)(day * STAMP_END_OF_DAY);
     uint8_t *record = s->octets + STAMP_SCHEDULE_HEADER;
-    uint8_t *const stamps_start = record + STAMP_SCHEDULE_RECORD * STAMP_MAX_RECORDS;
+    uint8_t *const stamps_start = record + STAMP_SCHEDULE_RECORD * r->records;
     size_t end = 0;
     for (; record != stamps_start; record += STAMP_SCHEDULE_RECORD) {
         size_t length;
@@ -150,7 +163,7 @@ static void fill_schedule(schedule *s, const stamps *r)
         put_record(record, end, length);
         end += length;
     }
-    put_big(s->octets, 4, STAMP_MAX_RECORDS);
+    put_big(s->octets, 4, r->records);
     put_big(s->octets + 4, 4, STAMP_SCHEDULE_HEADER);
     put_big(s->octets + 8, 4, (uint32_t)end);
     put_big(s->octets + 12, 4, (uint32_t)(stamps_start - s->octets));
@@ -161,6 +174,28 @@ static void fill_schedules(const stamps *r)
 {
     for (schedule *s = schedules; s < schedules + FILES; s++)
         fill_schedule(s, r);
+}
+
+/* How many questions a pass asks: fewer where each of them reads many records, as a pass would take too long. */
+static int questions_of(const stamps *r)
+{
+    const int enough = MOST_READ / (int)r->place;
+    return enough < VALUES ? enough : VALUES;
+}
+
+/* At the instant of the record, on any channel. */
+static void fill_questions(const stamps *r)
+{
+    stamp_record found[FILES];
+    fill_schedules(r);
+    for (int i = 0; i < FILES; i++)
+        expect_accepted(stamp_record_at(schedules[i].octets, schedules[i].length, r->place, &found[i]));
+    for (question *q = questions; q < questions + questions_of(r); q++) {
+        const uint64_t i = chance(FILES);
+        q->of = &schedules[i];
+        q->instant = found[i].instant;
+        q->channel = 1 + (uint32_t)chance(STAMP_MAX_CHANNEL);
+    }
 }
 
 #endif

@@ -18,7 +18,7 @@ ROOT = Path(__file__).resolve().parent.parent
 sys.path.insert(0, str(ROOT / 'tool' / 'tests'))
 from transcripts import README, readme_cases, tried  # noqa: E402
 
-RELEASE = '1.3'
+RELEASE = '1.4'
 SHARED = f'libstamp.so.{RELEASE}'
 # What is installed, each file with its mode, each link with where it leads.
 INSTALLED = {'bin/stamp': '755', 'include/stamp.h': '644', 'lib/libstamp.a': '644', 'lib/libstamp.so': 'libstamp.so.1', 'lib/libstamp.so.1': SHARED,
@@ -114,7 +114,7 @@ def try_readme(scratch, prefix):
     """The README's commands but those of the tool, as they stand, in a folder that has what the repository's root has."""
     root = scratch / 'root'
     root.mkdir()
-    for name in ('include', 'examples', 'libstamp.a', SHARED):
+    for name in ('include', 'examples', 'libstamp.a', SHARED, 'build'):
         (root / name).symlink_to(ROOT / name)
     environment = dict(PKG_CONFIG_PATH=f'{prefix}/lib/pkgconfig', LD_LIBRARY_PATH=f'{prefix}/lib')
     linked = {'-static': [], '--libs': ['libstamp.so.1'], 'libstamp.a': []}
@@ -133,11 +133,25 @@ def try_readme(scratch, prefix):
             expect(f'what is linked by: {command}', wanted, found)
 
 
+def try_console(root):
+    """The console and the plan that the README's commands made: without a moment, and where something is refused or fails. How it begins, and its status."""
+    plan = str(root / 'plan')
+    for words, begins, status in (([plan], 'channel  1: +90 parts in 10^18 since 2020-06-01T12:00:00.000000+00:00\nchannel  2: none yet\n', 0),
+                                  ([plan, '0001-01-01T00:00:00+23:59'], 'channel  1: none yet\nchannel  2: none yet\n', 0),
+                                  ([plan, '2021-02-29T00:00:00+00:00'], '2021-02-29T00:00:00+00:00: refusal 8: ', 1), ([plan, '9'], '9: refusal 5: ', 1),
+                                  (['/dev/null'], '/dev/null: refusal 13: ', 1), (['/dev/zero'], '/dev/zero: no schedule is longer than 44016 octets\n', 1),
+                                  (['nowhere'], 'nowhere: No such file or directory\n', 2), (['/'], '/: Is a directory\n', 2), ([], 'usage: ', 2)):
+        printed, found = output(str(root / 'console'), *words)
+        expect(f'console {words}', (begins, status), (printed[:len(begins)], found))
+
+
 def try_printed():
-    """The README prints the examples as they are; of the sites' and the schedule's, the calls that it is about, and of Rust's, the block of the functions."""
+    """The README prints the examples as they are; of the sites', the schedule's and the console's, the calls that it is about, and of Rust's, the block of
+    the functions."""
     readme = Path(README).read_text()
     for name, start, end in (('roundtrip.c', '', None), ('sites.c', '    accepted(stamp_decode', '    print_stamp("first'),
-                             ('schedule.c', '    uint32_t refusal = stamp_schedule', '}\n\nint main'), ('as_text.py', '', None),
+                             ('schedule.c', '    uint32_t refusal = stamp_schedule', '}\n\nint main'),
+                             ('console.c', '    for (channel = 1', '    return STAMP_ACCEPTED;\n}\n\nint main'), ('as_text.py', '', None),
                              ('as_text.rs', '#[link', 'fn main')):
         text = (ROOT / 'examples' / name).read_text()
         text = textwrap.dedent(text[text.index(start):text.index(end) if end else None]).strip()
@@ -180,6 +194,7 @@ def main():
             try_install(each)
         try_shared(made[0].root)
         try_readme(scratch, made[0].root)
+        try_console(scratch / 'root')
         try_printed()
         try_targets()
         try_missing(scratch)

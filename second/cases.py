@@ -29,12 +29,16 @@ Schedule files (02, request 4):
     P place hex                       (the record at a place)
         answer: number                (after a refusal), or
                 0 channel correction instant start length
+    Q instant channel hex             (which correction holds; 02, request 5)
+        answer: number                (after a refusal), or
+                0 read none           (none yet; read: the number of records read)
+                0 read place start length instant correction
 
-Years, months, days, kinds, versions, digits and places are unsigned numbers of 32
-bits, the micros of a day unsigned of 64, offsets signed of 32, instants and micros
-that are added signed of 64. Each lent octet is 5A before the call. Afterwards a
-table is printed: how many cases of each kind, or of each letter of instants and
-schedules, have each answer number.
+Years, months, days, kinds, versions, digits, places and the channel asked for are
+unsigned numbers of 32 bits, the micros of a day unsigned of 64, offsets signed of
+32, instants and micros that are added signed of 64. Each lent octet is 5A before
+the call. Afterwards a table is printed: how many cases of each kind, or of each
+letter of instants and schedules, have each answer number.
 """
 
 import os
@@ -78,11 +82,12 @@ def instant_lines():
 
 
 def schedule_lines():
+    from question_cases import question_cases
     from schedule_cases import CALLS, schedule_cases
-    for letter, file, *place in schedule_cases():
-        answer = CALLS[letter](file, *place)
+    for letter, file, *asked in schedule_cases() + question_cases():
+        answer = CALLS[letter](file, *asked)
         answer_line = fields(answer) if isinstance(answer, tuple) else str(answer)
-        yield fields([letter, *place, hex_or_dash(file)]), answer_line
+        yield fields([letter, *asked, hex_or_dash(file)]), answer_line
 
 
 def row_of(case):

@@ -412,3 +412,60 @@ REQUEST_4 = (
     ("F", (one_record("00000000 0002 0001 00000000", b"\x00\x01") + b"\x00",),
      (13, 0)),
 )
+
+# 02, request 5 (R5.1 to R5.4), in the same way.
+# TWO_RECORDS with an octet behind the last stamp that its record does not tell of.
+OCTET_OVER = octets("00000002 00000010 00000009 00000028"
+                    "00000000 0001 0010 000F4240"
+                    "00000001 0007 0001 FFF0BDC0" "00" "FEF2FFFFFFFFFF" "00")
+# TWO_RECORDS with channel 0 in the second, and with offset 1440 in its stamp.
+SECOND_BAD = octets("00000002 00000010 00000008 00000028"
+                    "00000000 0001 0010 000F4240"
+                    "00000001 0007 0000 FFF0BDC0" "00" "FEF2FFFFFFFFFF")
+SECOND_STAMP_BAD = octets("00000002 00000010 00000008 00000028"
+                          "00000000 0001 0010 000F4240"
+                          "00000001 0007 0001 FFF0BDC0" "00" "05A00000000000")
+
+REQUEST_5 = (
+    # "For an instant and channel, answer the last record of that channel at or
+    # before it."
+    ("Q", (ONE_RECORD, OF_2020, 16), (0, 1, 1, 28, 1, OF_2020, 1_000_000)),
+    ("Q", (TWO_RECORDS, OF_2020, 16), (0, 2, 1, 40, 1, OF_2020, 1_000_000)),
+    ("Q", (TWO_RECORDS, OF_M, 16), (0, 2, 1, 40, 1, OF_2020, 1_000_000)),
+    ("Q", (TWO_RECORDS, OF_M, 1), (0, 2, 2, 41, 7, OF_M, -1_000_000)),
+    ("Q", (TWO_RECORDS, OF_M + 1, 1), (0, 2, 2, 41, 7, OF_M, -1_000_000)),
+    ("Q", (EQUAL_INSTANTS, OF_2020, 1), (0, 2, 2, 50, 25, OF_2020, -1)),
+    # "The answer carries the number of records read: that one's place counting
+    # from one, or all of them if there is none". "'None yet' is a separate answer."
+    ("Q", (NO_RECORDS, OF_2020, 1), (0, 0, "none")),                # R5.3
+    ("Q", (TWO_RECORDS, OF_2020 - 1, 16), (0, 1, "none")),
+    ("Q", (TWO_RECORDS, OF_M - 1, 1), (0, 2, "none")),
+    ("Q", (TWO_RECORDS, OF_M, 2), (0, 2, "none")),
+    ("Q", (EQUAL_INSTANTS, OF_2020 - 1, 1), (0, 1, "none")),
+    # "Every signed 64-bit instant may be asked."
+    ("Q", (TWO_RECORDS, LEAST_64, 16), (0, 1, "none")),
+    ("Q", (TWO_RECORDS, FIRST - 1, 16), (0, 1, "none")),
+    ("Q", (TWO_RECORDS, LAST + 1, 16), (0, 2, 1, 40, 1, OF_2020, 1_000_000)),
+    ("Q", (TWO_RECORDS, MOST_64, 16), (0, 2, 1, 40, 1, OF_2020, 1_000_000)),
+    # "For others the answer is fixed by the header and the records read, with
+    # request 4's refusal if one of these is bad": the first later one too (R5.1).
+    ("Q", (SECOND_BAD, OF_2020 - 1, 16), (0, 1, "none")),
+    ("Q", (SECOND_BAD, OF_2020, 16), 14),
+    ("Q", (SECOND_STAMP_BAD, OF_2020 - 1, 1), (0, 1, "none")),
+    ("Q", (SECOND_STAMP_BAD, OF_2020, 1), 8),
+    ("Q", (TWO_TURNED, OF_M - 1, 16), (0, 1, "none")),
+    ("Q", (TWO_TURNED, OF_M, 16), 15),
+    # The last stamp's end, if the last record is read (R5.2).
+    ("Q", (OCTET_OVER, OF_2020 - 1, 16), (0, 1, "none")),
+    ("Q", (OCTET_OVER, OF_2020, 16), 14),
+    # The header always (R5.1).
+    ("Q", (TWO_RECORDS[:-1], LEAST_64, 16), 13),
+    ("Q", (TWO_RECORDS + b"\x00", OF_2020 - 1, 16), 13),
+    ("Q", (b"", OF_2020, 16), 13),
+    # "a bad channel is 2, before the file" (R5.4).
+    ("Q", (TWO_RECORDS, OF_2020, 0), 2),
+    ("Q", (TWO_RECORDS, OF_2020, 17), 2),
+    ("Q", (TWO_RECORDS, OF_2020, 4_294_967_295), 2),
+    ("Q", (SECOND_BAD, OF_2020, 0), 2),
+    ("Q", (b"", LEAST_64, 17), 2),
+)

@@ -28,4 +28,7 @@ uint32_t fast_schedule_read(const uint8_t *file, size_t length, uint32_t *record
 
 uint32_t fast_schedule_record(const uint8_t *file, size_t length, uint32_t place, int64_t parts[5]);
 
+uint32_t fast_schedule_holds(const uint8_t *file, size_t length, int64_t instant, uint32_t channel, uint32_t *read,
+                             int64_t parts[5]);
+
 #endif

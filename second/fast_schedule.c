@@ -1,5 +1,6 @@
 /* schedule.py in C: the schedule file (02, request 4): full reading, and the record at a place; or refusal 13, 14, 5 to
- * 8, 15, and 2 for a place.
+ * 8, 15, and 2 for a place. And the question which correction holds (02, request 5); or refusal 2 for a channel, then
+ * those of the file.
  *
  * All numbers in a file are big-endian. A stamp is read by fast_read's reader of DatetimeTz and has the instant that
  * fast_instant gives it. Sums are int64_t here, far from its ends, so none can wrap (R4.4). */
@@ -144,5 +145,44 @@ uint32_t fast_schedule_record(const uint8_t *file, size_t length, uint32_t place
     parts[2] = kept.instant;
     parts[3] = kept.start;
     parts[4] = kept.length;
+    return 0;
+}
+
+/* The number of records read, and the record that holds, all parts 0 where there is none yet (R5.3); or refusal 2, then
+ * the file's own by its header and the records read, and 0 of them. Any instant may be asked (R5.4). */
+uint32_t fast_schedule_holds(const uint8_t *file, size_t length, int64_t instant, uint32_t channel, uint32_t *read,
+                             int64_t parts[5])
+{
+    record before, found, held = {0};
+    int64_t place_held = 0, place_later = 0;
+    *read = 0;
+    /* "a bad channel is 2, before the file" */
+    if (!(1 <= channel && channel <= LAST_CHANNEL))
+        return 2;
+    /* The header counts as a whole, however few records are read (R5.1). */
+    if (!is_header(file, (int64_t)length))
+        return 13;
+    /* "Read from the front": each record is checked in full, with "request 4's refusal if one of these is bad", the
+     * first later one too (R5.1). Where the stamps end is asked of the last record, so only if that is read (R5.2). */
+    for (int64_t place = 1; place <= record_count(file) && place_later == 0; place++) {
+        uint32_t refusal = read_record(file, (int64_t)length, place, place == 1 ? NULL : &before, &found);
+        if (refusal != 0)
+            return refusal;
+        /* "stop at the first record later than the instant"; else "the last record of that channel at or before it" */
+        if (found.instant > instant) {
+            place_later = place;
+        } else if (found.channel == channel) {
+            place_held = place;
+            held = found;
+        }
+        before = found;
+    }
+    /* "that one's place counting from one, or all of them if there is none" */
+    *read = (uint32_t)(place_later != 0 ? place_later : record_count(file));
+    parts[0] = place_held;
+    parts[1] = held.start;
+    parts[2] = held.length;
+    parts[3] = held.instant;
+    parts[4] = held.correction;
     return 0;
 }

@@ -1,5 +1,6 @@
 """The schedule file (02, request 4): full reading, and the record at a place; or
-refusal 13, 14, 5 to 8, 15, and 2 for a place.
+refusal 13, 14, 5 to 8, 15, and 2 for a place. And the question which correction
+holds (02, request 5); or refusal 2 for a channel, then those of the file.
 
 A file is octets. All numbers in it are big-endian. A stamp is read by reading's
 own reader of DatetimeTz and has the instant that instants give it.
@@ -14,6 +15,7 @@ RECORD_OCTETS = 12
 MOST_RECORDS = 1_000
 LAST_CHANNEL = 16
 LAST_CORRECTION = 1_000_000              # either way
+NONE_YET = "none"                        # "is a separate answer"
 
 
 def schedule_read(file):
@@ -33,6 +35,40 @@ def schedule_record(file, place):
     if not 1 <= place <= len(records):
         return 2
     return (0,) + records[place - 1]
+
+
+def schedule_holds(file, instant, channel):
+    """(0, number of records read, place from one of the record that holds, start
+    of its stamp within the file, its length, its instant, its correction), or
+    (0, number of records read, NONE_YET) (R5.3); or refusal 2, then the file's
+    own by its header and the records read, which stands for 0 of them too. Any
+    instant may be asked (R5.4)."""
+    # "a bad channel is 2, before the file"
+    if not 1 <= channel <= LAST_CHANNEL:
+        return 2
+    # The header counts as a whole, however few records are read (R5.1).
+    if not is_header(file):
+        return 13
+    holds = (NONE_YET,)
+    before = None
+    # "Read from the front": each record is checked in full, with "request 4's
+    # refusal if one of these is bad", the first later one too (R5.1). Where the
+    # stamps end is asked of the last record, so only if that is read (R5.2).
+    for place in range(1, record_count(file) + 1):
+        record = read_record(file, place, before)
+        if isinstance(record, int):
+            return record
+        # "stop at the first record later than the instant": the number read is
+        # "that one's place counting from one"
+        if instant_of(record) > instant:
+            return (0, place) + holds
+        # "the last record of that channel at or before it"
+        own, correction, moment, start, length = record
+        if own == channel:
+            holds = place, start, length, moment, correction
+        before = record
+    # "or all of them if there is none"
+    return (0, record_count(file)) + holds
 
 
 def read_all(file):

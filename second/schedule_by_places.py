@@ -1,6 +1,8 @@
-"""The two calls on schedules over again, by a description of the whole file: all
+"""The three calls on schedules over again, by a description of the whole file: all
 faults at all places, each told without regard to the others, of which the first
-is the answer. Instants are reckoned by datetime. For the self-test."""
+is the answer. Which correction holds is looked up among all records of an
+accepted file, without a stop. Instants are reckoned by datetime. For the
+self-test."""
 
 import struct
 
@@ -73,4 +75,35 @@ def schedule_record_by_places(file, place):
     return 0, channel, correction, instant, start, length
 
 
-BY_PLACES = {"F": schedule_read_by_places, "P": schedule_record_by_places}
+def last_of(rows, instant, channel):
+    """Of these records the last of the channel at or before the instant, behind
+    whatever others."""
+    found = [(place, start, length, moment, correction)
+             for place, (start, _, length, own, correction, (_, moment))
+             in enumerate(rows, 1) if own == channel and moment <= instant]
+    return found[-1] if found else ("none",)
+
+
+def schedule_holds_by_places(file, instant, channel):
+    if channel not in range(1, 17):
+        return 2
+    header = counts(file)
+    if header is None:
+        return 13
+    rows = list(described(file, *header))
+    first = min(faults(file, rows, header[1]), default=None)
+    if first is None:
+        # As many as are at or before the instant, and one more if there is one.
+        read = sum(moment <= instant for *_, (_, moment) in rows) + 1
+        return (0, min(read, len(rows))) + last_of(rows, instant, channel)
+    # Those before the first bad one: a later one is among them, or it is read.
+    place, _, refusal = first
+    later = [one for one, (*_, (_, moment)) in enumerate(rows[:place - 1], 1)
+             if moment > instant]
+    if not later:
+        return refusal
+    return (0, later[0]) + last_of(rows[:later[0]], instant, channel)
+
+
+BY_PLACES = {"F": schedule_read_by_places, "P": schedule_record_by_places,
+             "Q": schedule_holds_by_places}

@@ -3,7 +3,8 @@ order and none twice: F and a file, P and a file and a place.
 
 Here: the documents' examples, several faults at once, each octet of a file
 damaged, places, many records, and chance. The cases made by hand for each rule are
-in schedule_rules.py.
+in schedule_rules.py, those of the question which correction holds, Q, in
+question_cases.py.
 """
 
 import examples
@@ -16,7 +17,8 @@ from instants import LAST_INSTANT
 from schedule import MOST_RECORDS
 from schedule_files import *
 
-CALLS = {"F": schedule.schedule_read, "P": schedule.schedule_record}
+CALLS = {"F": schedule.schedule_read, "P": schedule.schedule_record,
+         "Q": schedule.schedule_holds}
 
 
 def documents_examples(cases):

@@ -5,7 +5,8 @@ they are wrong."""
 from common import *
 from examples import OF_2020
 from instants import at
-from schedule import HEADER_OCTETS, RECORD_OCTETS
+from schedule import (HEADER_OCTETS, RECORD_OCTETS, instant_of, is_header,
+                      read_record)
 from writing import write
 
 MAX16, MAX32 = 2 ** 16 - 1, 2 ** 32 - 1
@@ -33,6 +34,9 @@ class Cases:
     def both(self, file, place=1):
         self.read(file)
         self.record(file, place)
+
+    def holds(self, file, instant, channel):
+        self.seen["Q", bytes(file), instant, channel] = True
 
 
 # Files
@@ -72,6 +76,26 @@ def put(file, where, number):
 
 def move(file, where, by):
     return put(file, where, number_at(file, where) + by)
+
+
+def with_channels(file, channels):
+    """The channels of the first records replaced by these."""
+    for place, channel in enumerate(channels, 1):
+        file = put(file, in_record(place, CHANNEL), channel)
+    return file
+
+
+def moments(file):
+    """The instants of the records up to the first bad one, to ask at."""
+    found, before = [], None
+    if not is_header(file):
+        return found
+    for place in range(1, number_at(file, COUNT) + 1):
+        before = read_record(file, place, before)
+        if isinstance(before, int):
+            break
+        found.append(instant_of(before))
+    return found
 
 
 # Stamps

@@ -2,8 +2,8 @@
 
 Checks the calendar against Python's datetime for every day there is, the
 examples of the documents, that writing and reading, which share no procedure,
-agree, instants against datetime and their laws, and schedules against a
-description of the whole file: see the docstrings.
+agree, instants against datetime and their laws, and schedules (schedule_test.py)
+against a description of the whole file: see the docstrings.
 """
 
 import datetime
@@ -22,10 +22,7 @@ from instants_by_datetime import BY_DATETIME
 from reading import read
 from reading_cases import reading_cases
 from reading_rules import EITHER
-from schedule import schedule_read, schedule_record
-from schedule_by_places import BY_PLACES
-from schedule_cases import some_file
-from schedule_files import CHANNEL, CORRECTION, card, in_record, put
+from schedule_test import test_questions, test_schedules
 from writing import write
 from writing_cases import writing_cases
 
@@ -92,7 +89,7 @@ def test_integers():
 
 def test_examples():
     """The fifteen bench lines, "Run, not proved", docs/DECISIONS.md, and
-    requests 1, 2 and 4 of 02."""
+    requests 1, 2, 4 and 5 of 02."""
     output = ""
     for letter, call in examples.BENCH:
         number, octets = write(*call)
@@ -104,7 +101,7 @@ def test_examples():
         assert read(kind, octets) == answer, (kind, octets, read(kind, octets))
     for letter, numbers, answer in examples.REQUEST_2:
         assert CALLS[letter](*numbers) == answer, (letter, numbers)
-    for letter, given, answer in examples.REQUEST_4:
+    for letter, given, answer in examples.REQUEST_4 + examples.REQUEST_5:
         assert schedule_cases.CALLS[letter](*given) == answer, (letter, given)
 
 
@@ -240,41 +237,8 @@ def test_instants():
         check_two(a, b)
 
 
-def check_file(letter, *given):
-    answer = schedule_cases.CALLS[letter](*given)
-    assert answer == BY_PLACES[letter](*given), (letter, given, answer)
-
-
-def check_records(file):
-    """The records that an accepted file is said to have give the file again."""
-    refusal, number = schedule_read(file)
-    if refusal != 0:
-        assert schedule_record(file, 1) == schedule_record(file, 0) == refusal
-        return
-    records = [schedule_record(file, place) for place in range(1, number + 1)]
-    again = card([file[start:start + length] for *_, start, length in records])
-    for place, (_, channel, correction, *_) in enumerate(records, 1):
-        again = put(again, in_record(place, CHANNEL), channel)
-        again = put(again, in_record(place, CORRECTION), correction)
-    assert again == file, file
-    assert schedule_record(file, 0) == schedule_record(file, number + 1) == 2
-
-
-def test_schedules():
-    """All cases and more files by chance against the description of the whole
-    file."""
-    for case in schedule_cases.schedule_cases():
-        check_file(*case)
-    chance = Chance(13)
-    for _ in range(10_000):
-        file = some_file(chance)
-        check_file("F", file)
-        check_file("P", file, chance.below(7))
-        check_records(file)
-
-
 def run():
     for test in (test_constants, test_integers, test_examples, test_calendar,
-                 test_both_ways, test_instants, test_schedules):
+                 test_both_ways, test_instants, test_schedules, test_questions):
         test()
         print("%-16s good" % test.__name__)

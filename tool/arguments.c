@@ -1,6 +1,5 @@
 #include "arguments.h"
 
-#include <stdio.h>
 #include <string.h>
 
 #include "numbers.h"
@@ -17,38 +16,6 @@ static bool wrong(const char *what, const char *word)
 {
     say_usage(what, word);
     return false;
-}
-
-void print_help(void)
-{
-#define PRINT_REFUSAL(name, number, sentence) printf("%3d %s\n", number, sentence);
-    fputs("usage: stamp read KIND [HEX..] [--raw] [--json]\n"
-          "       stamp write KIND [TEXT..] [--binary] [--version N] [--digits N] [--raw | --json]\n"
-          "       stamp explain [HEX..] [--raw] [--json]\n"
-          "       stamp instant [STAMP..] [--raw] [--json]\n"
-          "       stamp restate [STAMP..] --to OFFSET [--raw] [--json]\n"
-          "       stamp difference [A B ..] [--json]\n"
-          "       stamp add [STAMP..] MICROS [--raw] [--json]\n"
-          "       stamp schedule check [FILE..] [--json]\n"
-          "       stamp schedule list [FILE] [--json]\n"
-          "       stamp schedule make\n"
-          "       stamp -h | -V\n"
-          "Without any stamp, or for a -, the stamps come from standard input, one a line.\n"
-          "--raw: write prints the octets of its stamp and nothing else,\n"
-          "       the others take standard input as the octets of one stamp\n"
-          "KIND: date datetz time timetz datetime datetimetz; for read also\n"
-          "      date-or-datetz time-or-timetz datetime-or-datetimetz\n"
-          "HEX:  the contents octets of one stamp, two hex digits each\n"
-          "TEXT: the value as ISO 8601 text, such as 2019-12-31T23:59:59.999-04:30\n"
-          "STAMP, A, B: a datetimetz, as HEX of any form or as TEXT; difference is A less B\n"
-          "OFFSET: from UTC, +hh:mm or -hh:mm, at most 23:59\n"
-          "MICROS: how many microseconds later, a signed number of 64 bits\n"
-          "FILE: a schedule file; standard input without any, or for a -. make takes lines from standard input,\n"
-          "      each a STAMP (without blanks), a channel and a correction, and prints the octets of their schedule\n"
-          "Exit status: 0 accepted, 1 refused, 2 usage, or input or output failed.\n"
-          "Refusals:\n", stdout);
-    STAMP_REFUSALS(PRINT_REFUSAL)
-#undef PRINT_REFUSAL
 }
 
 static bool parse_kind(const char *word, request *into)
@@ -81,7 +48,7 @@ static bool is_word(const char *wanted, const char *word)
 static bool no_such_command(char **words)
 {
     if (strcmp(words[0], "schedule") == 0)
-        return wrong("schedule check, schedule list or schedule make?", words[1]);
+        return wrong("schedule check, schedule list, schedule holds or schedule make?", words[1]);
     return wrong("no such command", words[0]);
 }
 
@@ -92,7 +59,8 @@ static bool parse_command(char **words, request *into, int *taken)
         {"read", NULL, COMMAND_READ}, {"write", NULL, COMMAND_WRITE}, {"explain", NULL, COMMAND_EXPLAIN},
         {"instant", NULL, COMMAND_INSTANT}, {"restate", NULL, COMMAND_RESTATE}, {"difference", NULL, COMMAND_DIFFERENCE},
         {"add", NULL, COMMAND_ADD}, {"schedule", "check", COMMAND_CHECK}, {"schedule", "list", COMMAND_LIST},
-        {"schedule", "make", COMMAND_MAKE}, {"schedule", "-h", COMMAND_HELP}, {"schedule", "--help", COMMAND_HELP},
+        {"schedule", "holds", COMMAND_HOLDS}, {"schedule", "make", COMMAND_MAKE},
+        {"schedule", "-h", COMMAND_HELP}, {"schedule", "--help", COMMAND_HELP},
         {"-h", NULL, COMMAND_HELP}, {"--help", NULL, COMMAND_HELP}, {"-V", NULL, COMMAND_RELEASE}
     };
     size_t at;
@@ -132,6 +100,39 @@ static bool parse_to(const char *word, request *into)
     return into->has_to || wrong("--to takes +hh:mm or -hh:mm, at most 23:59, and +00:00 for UTC", word);
 }
 
+/* A minus before a digit is the sign of a number: no option has a digit there. */
+static bool is_option(const char *word)
+{
+    return word[0] == '-' && word[1] != '\0' && !is_digit(word[1]);
+}
+
+/* The moment is read when all words are known to be right. An option in its place was meant as one: no text is so. */
+static bool parse_at(char *word, request *into)
+{
+    into->at = word;
+    return (word != NULL && !is_option(word)) || wrong("--at takes the text of a datetimetz, or the word now", word);
+}
+
+static bool is_of_question(const char *option)
+{
+    return strcmp(option, "--channel") == 0 || strcmp(option, "--at") == 0 || strcmp(option, "--instant") == 0;
+}
+
+/* Options that holds alone has. A channel is any number: the library tells which ones there are. */
+static bool parse_question(const char *option, char *word, request *into)
+{
+    if (into->asked != COMMAND_HOLDS)
+        return wrong("only schedule holds has the option", option);
+    if (strcmp(option, "--at") == 0)
+        return parse_at(word, into);
+    if (strcmp(option, "--channel") == 0) {
+        into->has_channel = parse_number(word, &into->channel);
+        return into->has_channel || wrong("a number from 0 to 4294967295 must follow", option);
+    }
+    into->has_instant = parse_signed(word, &into->instant);
+    return into->has_instant || wrong("--instant takes a signed number of 64 bits", word);
+}
+
 /* The option at argv[*at], with its value if it has one; *at is left at the last word taken. argv ends with a null. */
 static bool parse_option(char **argv, int *at, request *into)
 {
@@ -144,15 +145,11 @@ static bool parse_option(char **argv, int *at, request *into)
         into->asked = COMMAND_HELP;
     else if (strcmp(word, "--to") == 0)
         return parse_to(argv[++*at], into);
+    else if (is_of_question(word))
+        return parse_question(word, argv[++*at], into);
     else
         return parse_setting(argv, at, into);
     return true;
-}
-
-/* A minus before a digit is the sign of a number: no option has a digit there. */
-static bool is_option(const char *word)
-{
-    return word[0] == '-' && word[1] != '\0' && !is_digit(word[1]);
 }
 
 /* A `-` that is no record: it may stand once. */
@@ -166,6 +163,18 @@ static bool add_standard_input(request *into)
     return true;
 }
 
+/* A question is asked of a channel, and at one moment. */
+static bool question_fits(const request *what)
+{
+    if (!what->has_channel)
+        return wrong("holds on which channel? --channel N tells it", NULL);
+    if (what->at == NULL && !what->has_instant)
+        return wrong("holds at which moment? --at TEXT or --instant MICROS tells it", NULL);
+    if (what->at != NULL && what->has_instant)
+        return wrong("the moment is told twice: either --at or --instant", NULL);
+    return true;
+}
+
 /* Schedule files are octets in any case, and make prints nothing else. */
 static bool schedule_fits(const request *what)
 {
@@ -175,9 +184,9 @@ static bool schedule_fits(const request *what)
         return wrong("make prints octets: there is no --json for it", NULL);
     if (what->asked == COMMAND_MAKE && what->records[0] != standard_input)
         return wrong("make takes its lines from standard input", what->records[0]);
-    if (what->asked != COMMAND_CHECK && what->count > 1)
+    if ((what->asked == COMMAND_LIST || what->asked == COMMAND_MAKE) && what->count > 1)
         return wrong("there is one schedule at a time to list or make", what->records[1]);
-    return true;
+    return what->asked != COMMAND_HOLDS || question_fits(what);
 }
 
 /* Raw octets can't be told apart, so they are those of one stamp. */
@@ -254,6 +263,11 @@ bool parse_arguments(int argc, char **argv, request *into)
     into->has_to = false;
     into->to = 0;
     into->micros = 0;
+    into->has_channel = false;
+    into->channel = 0;
+    into->at = NULL;
+    into->has_instant = false;
+    into->instant = 0;
     into->json = false;
     into->raw = false;
     into->records = argv;

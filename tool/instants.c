@@ -185,6 +185,15 @@ static int answer_pair(const report *how, const record pair[2])
     return EXIT_ACCEPTED;
 }
 
+int read_instant(const report *how, const record *of, int64_t *instant)
+{
+    moment read;
+    int status = read_moment(how, of, &read);
+    if (status == EXIT_ACCEPTED)
+        *instant = read.instant;
+    return status;
+}
+
 bool is_of_instants(command asked)
 {
     return asked == COMMAND_INSTANT || asked == COMMAND_RESTATE || asked == COMMAND_DIFFERENCE || asked == COMMAND_ADD;

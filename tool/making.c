@@ -5,7 +5,7 @@
 #include "numbers.h"
 #include "report.h"
 #include "say.h"
-#include "schedule_report.h"
+#include "schedule_refusal.h"
 
 /* Answers go to standard error: standard output is for the file. */
 static report said(void)

@@ -5,98 +5,18 @@
 #include "print.h"
 #include "say.h"
 
-/* ---- What is shown ---- */
-
-/* A part of the file, and so much of it as is shown. */
-typedef struct span {
-    const uint8_t *octets;
-    size_t length;
-} span;
-
-static span shown_of(span whole, size_t most)
+/* The stamp of a record that was accepted. */
+static stamp_decoded stamp_of(const schedule *in, const stamp_record *of)
 {
-    if (whole.length > most)
-        whole.length = most;
-    return whole;
-}
-
-/* The record; for place 0 the header, or what there is of it. */
-static span refused_octets(const schedule *of, uint32_t place)
-{
-    span found = {of->octets, of->length};
-    if (place == 0)
-        return shown_of(found, STAMP_SCHEDULE_HEADER);
-    found.octets += entry_at(place);
-    found.length = STAMP_SCHEDULE_RECORD;
-    return found;
-}
-
-/* Of a record whose stamp is in its place. */
-static span stamp_octets(const schedule *of, uint32_t place)
-{
-    entry numbers = entry_of(of->octets, place);
-    span found = {of->octets + header_of(of->octets).stamps_start + numbers.start, (size_t)numbers.length};
-    return found;
-}
-
-static bool is_of_stamp(uint32_t refusal)
-{
-    return refusal >= STAMP_REFUSED_LENGTH && refusal <= STAMP_REFUSED_RANGE;
-}
-
-/* Extended has the first bit set and ten octets, compact has fewer: so this is text, or was meant to be. */
-static bool is_like_text(span stamp)
-{
-    return stamp.length >= 10 && stamp.octets[0] < 0x80;
-}
-
-static void print_text_of(FILE *to, span stamp, bool json)
-{
-    span shown = shown_of(stamp, LONGEST_SHOWN);
-    print_escaped(to, (const char *)shown.octets, shown.length, json);
-}
-
-static void print_hex_of(FILE *to, span stamp)
-{
-    span shown = shown_of(stamp, STAMP_LONGEST_IMAGE);
-    print_hex(to, shown.octets, shown.length);
-}
-
-/* The number that makes the refusal; none for those of a stamp and of the order. */
-static bool find_wrong(const schedule *of, uint32_t refusal, uint32_t place, wrong_number *into)
-{
-    header numbers;
-    entry found, before = {0, 0, 0, 0};
-    if (refusal == STAMP_REFUSED_HEADER)
-        return wrong_in_header(of->octets, of->length, into);
-    if (refusal != STAMP_REFUSED_RECORD)
-        return false;
-    numbers = header_of(of->octets);
-    found = entry_of(of->octets, place);
-    if (place > 1)
-        before = entry_of(of->octets, place - 1);
-    return wrong_in_entry(&found, before.start + before.length, numbers.stamps, place == numbers.records, into);
-}
-
-/* A stamp that was accepted, and its instant. */
-typedef struct moment {
-    stamp_decoded found;
-    int64_t instant;
-} moment;
-
-static moment moment_of(const schedule *of, uint32_t place)
-{
-    span stamp = stamp_octets(of, place);
-    moment read;
-    if (stamp_decode(STAMP_DATETIMETZ, stamp.octets, stamp.length, &read.found) != STAMP_ACCEPTED
-        || stamp_instant_of(&read.found.value, &read.instant) != STAMP_ACCEPTED)
+    stamp_decoded read;
+    if (stamp_decode(STAMP_DATETIMETZ, in->octets + of->start, of->length, &read) != STAMP_ACCEPTED)
         end_in_doubt("the library refuses a stamp of a schedule, which it took");
     return read;
 }
 
 /* ---- Plain ---- */
 
-static void print_name(FILE *to, const schedule *of)
+void print_name(FILE *to, const schedule *of)
 {
     if (of->name == standard_input)
         fputs("standard input", to);
@@ -104,146 +24,69 @@ static void print_name(FILE *to, const schedule *of)
         print_escaped(to, of->name, strlen(of->name), false);
 }
 
-void print_refusal(FILE *to, uint32_t refusal)
+static void print_records(FILE *to, uint32_t records)
 {
-    fprintf(to, "refusal %u: %s", (unsigned)refusal, stamp_refusal_sentence(refusal));
-}
-
-void print_wrong_number(FILE *to, const wrong_number *of)
-{
-    fprintf(to, ": the %s is %lld, and must be %lld", of->name, (long long)of->found, (long long)of->least);
-    if (of->least != of->most)
-        fprintf(to, " to %lld", (long long)of->most);
-}
-
-static void print_refused_stamp(FILE *to, span stamp)
-{
-    fputs(stamp.length == 0 ? ": the stamp has no octets" : ": the stamp is ", to);
-    print_hex_of(to, stamp);
-    fputs(stamp.length > STAMP_LONGEST_IMAGE ? ".." : "", to);
-    if (!is_like_text(stamp))
-        return;
-    fputs(" (text ", to);
-    print_text_of(to, stamp, false);
-    fputs(stamp.length > LONGEST_SHOWN ? "..)" : ")", to);
-}
-
-static void print_moment(FILE *to, const schedule *of, uint32_t place)
-{
-    moment read = moment_of(of, place);
-    print_value(to, &read.found);
-    fputs(" (UTC ", to);
-    print_utc(to, read.instant);
-    fputc(')', to);
-}
-
-static void print_order(FILE *to, const schedule *of, uint32_t place)
-{
-    fputs(": ", to);
-    print_moment(to, of, place);
-    fputs(" is earlier than ", to);
-    print_moment(to, of, place - 1);
-}
-
-void print_refused(FILE *to, const schedule *of, uint32_t refusal, uint32_t place)
-{
-    span octets = refused_octets(of, place);
-    wrong_number wrong;
-    print_refusal(to, refusal);
-    if (find_wrong(of, refusal, place, &wrong))
-        print_wrong_number(to, &wrong);
-    else if (refusal == STAMP_REFUSED_ORDER)
-        print_order(to, of, place);
-    else if (is_of_stamp(refusal))
-        print_refused_stamp(to, stamp_octets(of, place));
-    fputs(octets.length == 0 ? "  no octets" : "  ", to);
-    print_hex(to, octets.octets, octets.length);
-    fputc('\n', to);
+    fprintf(to, records == 1 ? "%u record" : "%u records", (unsigned)records);
 }
 
 /* In columns, as people read them; a reading at UTC that is none is shorter. */
-static void print_record(FILE *to, const moment *read, uint32_t place, const stamp_record *found)
+static void print_record(FILE *to, const schedule *in, uint32_t place, const stamp_record *of)
 {
-    size_t length = stamp_text_length(STAMP_DATETIMETZ, digits_kept(&read->found));
+    stamp_decoded read = stamp_of(in, of);
+    size_t length = stamp_text_length(STAMP_DATETIMETZ, digits_kept(&read));
     fprintf(to, "%4u  ", (unsigned)place);
-    print_value(to, &read->found);
+    print_value(to, &read);
     fprintf(to, "%*s  UTC ", (int)(STAMP_LONGEST_IMAGE - length), "");
-    print_utc(to, found->instant);
-    fprintf(to, "  channel %2u  correction %+8ld parts in 10^18\n", (unsigned)found->channel, (long)found->correction);
+    print_utc(to, of->instant);
+    fprintf(to, "  channel %2u  correction %+8ld parts in 10^18", (unsigned)of->channel, (long)of->correction);
+}
+
+static void print_held(FILE *to, const schedule *in, const stamp_held *found, const stamp_record *of)
+{
+    print_name(to, in);
+    fputs(": ", to);
+    if (found->place == STAMP_NONE_YET)
+        fprintf(to, "none yet  channel %2u", (unsigned)of->channel);
+    else
+        print_record(to, in, found->place, of);
+    fputs("  ", to);
+    print_records(to, found->read);
+    fputs(" read\n", to);
 }
 
 /* ---- JSON ---- */
 
-static void print_json_file(FILE *to, const schedule *of)
+void print_json_file(FILE *to, const schedule *of)
 {
     fputs("{\"file\":\"", to);
     print_escaped(to, of->name, strlen(of->name), true);
     fputc('"', to);
 }
 
-static void print_json_wrong(FILE *to, const wrong_number *of)
+/* The object but for its end. */
+static void print_json_record(FILE *to, const schedule *in, uint32_t place, const stamp_record *of)
 {
-    fprintf(to, ",\"field\":\"%s\",\"found\":%lld,\"least\":%lld,\"most\":%lld", of->name, (long long)of->found,
-            (long long)of->least, (long long)of->most);
-}
-
-static void print_json_stamp(FILE *to, span stamp)
-{
-    fputs(",\"stamp\":{\"octets\":\"", to);
-    print_hex_of(to, stamp);
-    if (is_like_text(stamp)) {
-        fputs("\",\"given\":\"", to);
-        print_text_of(to, stamp, true);
-    }
-    fputs(stamp.length > STAMP_LONGEST_IMAGE ? "\",\"shortened\":true}" : "\"}", to);
-}
-
-static void print_json_moment(FILE *to, const char *name, const schedule *of, uint32_t place)
-{
-    moment read = moment_of(of, place);
-    fprintf(to, ",\"%s\":{", name);
-    print_json_instant(to, read.instant);
-    fputc(',', to);
-    print_json_value(to, &read.found.value, digits_kept(&read.found));
-    fputc('}', to);
-}
-
-static void print_json_order(FILE *to, const schedule *of, uint32_t place)
-{
-    print_json_moment(to, "stamp", of, place);
-    print_json_moment(to, "before", of, place - 1);
-}
-
-static void print_json_refused(FILE *to, const schedule *of, uint32_t refusal, uint32_t place)
-{
-    span octets = refused_octets(of, place);
-    wrong_number wrong;
-    print_json_file(to, of);
-    if (place != 0)
-        fprintf(to, ",\"record\":%u", (unsigned)place);
-    fprintf(to, ",\"refusal\":%u,\"sentence\":\"%s\"", (unsigned)refusal, stamp_refusal_sentence(refusal));
-    if (find_wrong(of, refusal, place, &wrong))
-        print_json_wrong(to, &wrong);
-    else if (refusal == STAMP_REFUSED_ORDER)
-        print_json_order(to, of, place);
-    else if (is_of_stamp(refusal))
-        print_json_stamp(to, stamp_octets(of, place));
-    fputc(',', to);
-    print_json_octets(to, octets.octets, octets.length);
-    fputs("}\n", to);
-}
-
-static void print_json_record(FILE *to, const schedule *of, const moment *read, uint32_t place, const stamp_record *found)
-{
-    print_json_file(to, of);
+    stamp_decoded read = stamp_of(in, of);
+    print_json_file(to, in);
     fprintf(to, ",\"record\":%u,\"refusal\":0,\"channel\":%u,\"correction\":%ld,", (unsigned)place,
-            (unsigned)found->channel, (long)found->correction);
-    print_json_instant(to, found->instant);
+            (unsigned)of->channel, (long)of->correction);
+    print_json_instant(to, of->instant);
     fputc(',', to);
-    print_json_found(to, &read->found);
+    print_json_found(to, &read);
     fputc(',', to);
-    print_json_octets(to, of->octets + found->start, found->length);
-    fputs("}\n", to);
+    print_json_octets(to, in->octets + of->start, of->length);
+}
+
+/* Of none yet there is no correction, nor anything else that could pass for a record's. */
+static void print_json_held(FILE *to, const schedule *in, const stamp_held *found, const stamp_record *of)
+{
+    if (found->place == STAMP_NONE_YET) {
+        print_json_file(to, in);
+        fprintf(to, ",\"record\":null,\"refusal\":0,\"channel\":%u", (unsigned)of->channel);
+    } else {
+        print_json_record(to, in, found->place, of);
+    }
+    fprintf(to, ",\"read\":%u}\n", (unsigned)found->read);
 }
 
 /* ---- Lines ---- */
@@ -255,31 +98,28 @@ void report_count(bool json, const schedule *of, uint32_t records)
         printf(",\"refusal\":0,\"records\":%u}\n", (unsigned)records);
     } else {
         print_name(stdout, of);
-        printf(records == 1 ? ": %u record\n" : ": %u records\n", (unsigned)records);
+        fputs(": ", stdout);
+        print_records(stdout, records);
+        fputc('\n', stdout);
     }
 }
 
 void report_record(bool json, const schedule *of, uint32_t place, const stamp_record *found)
 {
-    moment read = moment_of(of, place);
     if (json)
-        print_json_record(stdout, of, &read, place, found);
+        print_json_record(stdout, of, place, found);
     else
-        print_record(stdout, &read, place, found);
+        print_record(stdout, of, place, found);
+    fputs(json ? "}\n" : "\n", stdout);
 }
 
-int report_refused(bool json, const schedule *of, uint32_t refusal, uint32_t place)
+void report_held(bool json, const schedule *of, uint32_t channel, const stamp_held *found)
 {
-    if (json) {
-        print_json_refused(stdout, of, refusal, place);
-        return EXIT_REFUSED;
-    }
-    print_name(stdout, of);
-    if (place != 0)
-        printf(": record %u", (unsigned)place);
-    fputs(": ", stdout);
-    print_refused(stdout, of, refusal, place);
-    return EXIT_REFUSED;
+    stamp_record holds = {channel, found->correction, found->instant, found->start, found->length};
+    if (json)
+        print_json_held(stdout, of, found, &holds);
+    else
+        print_held(stdout, of, found, &holds);
 }
 
 int report_too_long(bool json, const schedule *of)

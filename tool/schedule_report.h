@@ -1,4 +1,4 @@
-/* What the tool says of a schedule file: a line an answer, for people or as JSON. */
+/* What the tool says of a schedule file that is not refused: a line an answer, for people or as JSON. */
 #ifndef TOOL_SCHEDULE_REPORT_H
 #define TOOL_SCHEDULE_REPORT_H
 
@@ -19,8 +19,8 @@ void report_count(bool json, const schedule *of, uint32_t records);
 /* A record of an accepted file. */
 void report_record(bool json, const schedule *of, uint32_t place, const stamp_record *found);
 
-/* A file that is refused: which record, or place 0 for the header, and what is wrong with it. Answers the status. */
-int report_refused(bool json, const schedule *of, uint32_t refusal, uint32_t place);
+/* What holds on a channel, or that none does yet; and how many records were read. */
+void report_held(bool json, const schedule *of, uint32_t channel, const stamp_held *found);
 
 /* A file that is longer than any schedule. Answers the status. */
 int report_too_long(bool json, const schedule *of);
@@ -28,12 +28,12 @@ int report_too_long(bool json, const schedule *of);
 /* A file that cannot be read, on standard error: `reason` is an errno. Answers the status. */
 int report_unread(const schedule *of, int reason);
 
-/* ---- The parts of a refusal, for people ---- */
+/* ---- Which file, for lines of other kinds ---- */
 
-/* From the refusal's number to the line's end, without the file and the record. */
-void print_refused(FILE *to, const schedule *of, uint32_t refusal, uint32_t place);
+/* Its name; `standard input` for that. */
+void print_name(FILE *to, const schedule *of);
 
-void print_refusal(FILE *to, uint32_t refusal);
-void print_wrong_number(FILE *to, const wrong_number *of);
+/* An object's start with its name; `-` for standard input. */
+void print_json_file(FILE *to, const schedule *of);
 
 #endif

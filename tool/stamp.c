@@ -1,8 +1,9 @@
-/* stamp - reads, writes and explains date-and-time stamps at a prompt, compares them, and reads and makes schedule files.
- * docs/stamp.1 describes it. The library does the work; here are arguments, hex and printing. */
+/* stamp - reads, writes and explains date-and-time stamps at a prompt, compares them, and reads, asks and makes
+ * schedule files. docs/stamp.1 describes it. The library does the work; here are arguments, hex and printing. */
 #include <stdio.h>
 
 #include "arguments.h"
+#include "help.h"
 #include "instants.h"
 #include "output.h"
 #include "records.h"

@@ -19,6 +19,8 @@ ONE = {
     "OneNumberForC": "(lent : ℤ) (r r′ : ℕ) (left left′ : ℤ) → P lent r left → P lent r′ left′ → (r ≡ r′) × (left ≡ left′)",
     "OneCountForC": "(r r′ count count′ place place′ : ℕ) → P r count place → P r′ count′ place′ "
                     "→ (r ≡ r′) × (count ≡ count′) × (place ≡ place′)",
+    "OneHoldingForC": "(lent : List ℤ) (r r′ count count′ : ℕ) (left left′ : List ℤ) → P lent r count left "
+                      "→ P lent r′ count′ left′ → (r ≡ r′) × (count ≡ count′) × (left ≡ left′)",
 }
 # `(y m d : ℕ) → OneAnswer (DateNew y m d)`, or `OneAnswer TimeEndOfDay` of what is given nothing
 ONE_ANSWER = re.compile(r"(?:((?:\([^()]*\) )+)→ )?(?:%s) (?:\((\S+) ([^()]*)\)|([^\s()]+))" % "|".join(ONE))

@@ -10,9 +10,10 @@ use Rattle.values.proofs.OneAnswer.{one-left}
 use Rattle.moments.specs.Calls.{instant, add, difference, at, restate}
 use Rattle.card.specs.Header.{twelve}
 use Rattle.card.specs.Reading.{recordAsked}
+use Rattle.card.specs.Question.{question}
 use Rattle.boundary.specs.Boundary.{writing, WritesNumbered, ReadsNumbered}
 use Rattle.boundary.specs.Utc.{HandsOver, InstantForC, AddForC, DifferenceForC, AtForC, RestateForC}
-use Rattle.boundary.specs.Files.{ReadForC, RecordForC}
+use Rattle.boundary.specs.Files.{ReadForC, RecordForC, HoldsForC}
 
 pub one-stamp-write : (n : ℕ) (t : Settings) (v : Value) (lent : List ℕ) (r r′ count count′ : ℕ) (left left′ : List ℕ)
     → WritesNumbered n t v lent r count left → WritesNumbered n t v lent r′ count′ left′ → (r ≡ r′) × (count ≡ count′) × (left ≡ left′)
@@ -51,3 +52,9 @@ one-stamp-schedule-read s r r′ count count′ place place′ p q = (p .number 
 pub one-stamp-schedule-record : (s : List ℕ) (p : ℕ) (lent : List ℤ) (r r′ : ℕ) (left left′ : List ℤ)
     → RecordForC s p lent r left → RecordForC s p lent r′ left′ → (r ≡ r′) × (left ≡ left′)
 one-stamp-schedule-record s p = one-handed (recordAsked twelve s p)
+
+pub one-stamp-schedule-holds : (s : List ℕ) (t : ℤ) (c : ℕ) (lent : List ℤ) (r r′ count count′ : ℕ) (left left′ : List ℤ)
+    → HoldsForC s t c lent r count left → HoldsForC s t c lent r′ count′ left′ → (r ≡ r′) × (count ≡ count′) × (left ≡ left′)
+one-stamp-schedule-holds s t c lent r r′ count count′ left left′ p q =
+    let h = one-handed (question twelve s t c) lent r r′ left left′ (p .answer) (q .answer) in
+    (h .0, p .read ∙ sym (q .read), h .1)

@@ -1,5 +1,5 @@
 -- A file is accepted exactly when it is as described over places. (02, request 4.) Assumes nothing.
---     described-read     a described file is read, up to any stop, as its list of records
+--     all-read           a described file's records are all taken, where nothing stops reading
 --     read-described     a file that full reading accepts is as described, and the number is that of its records
 --     accepted-exactly   the two together
 --     never-decrease     instants never decrease, over any two records and not only neighbours
@@ -7,7 +7,7 @@ use mathlib.Core.Path.{_≡_, refl, sym, ap, _∙_}
 use mathlib.Core.Logic.{_↔_, ⊎-elim}
 use mathlib.Core.Bool.{Bool, true, false}
 use mathlib.Core.List.{List}
-use Prim.Native.Nat.{ℕ, zero, suc, _+_, _≤_, _<_}
+use Prim.Native.Nat.{ℕ, zero, suc, _+_, _-_, _≤_, _<_}
 use native.Mathlib.Omega.{arith}
 use lib.Dec.{leb, ltb, eqb}
 use lib.Signed.{leZ}
@@ -17,13 +17,15 @@ use Rattle.format.specs.Words.{either}
 use Rattle.format.specs.Octets.{unsignedAt}
 use Rattle.format.proofs.Cases.{both-true, lt-or-le}
 use Rattle.card.specs.Header.{RecordForm, countOf, stampOctets, stampsStart, headerGood}
-use Rattle.card.specs.Records.{Record, recordAt, instantAt}
-use Rattle.card.specs.Step.{atFront}
-use Rattle.card.specs.Reading.{Walked, taken, fault, walk, walkFile, never, upTo, records, numbered, fullReading}
-use Rattle.card.proofs.Described.{HeaderDescribed, Described}
-use Rattle.card.specs.Records.{recordsOf}
+use Rattle.card.specs.Records.{Record, recordAt, instantAt, recordsFrom}
+use Rattle.card.specs.Step.{atFront, beforeAt}
+use Rattle.card.specs.Reading.{Walked, taken, fault, walk, walkFile, never, records, numbered, fullReading}
+use Rattle.card.proofs.Described.{HeaderDescribed, Described, GoodAfter}
 use Rattle.card.proofs.Tests.{either-told, leZ-refl, leZ-trans}
-use Rattle.card.proofs.Walking.{AllGood, records-length, up-to-never, walk-good, good-walk}
+use Rattle.card.proofs.Walking.{Reach, records-length, reach-walk, walk-reach}
+
+abbrev EachGood : RecordForm → List ℕ → Type 0
+EachGood f s = (j : ℕ) → j < countOf s → GoodAfter f s j (beforeAt f s j)
 
 -- ---- the header
 
@@ -80,16 +82,16 @@ module _ (f : RecordForm) (s : List ℕ) where
 
   -- ---- from places to steps, and back
 
-  pub described-good : Described f s → AllGood f s 0 (countOf s)
+  pub described-good : Described f s → EachGood f s
   unfolding recordAt
-  described-good d zero p q =
+  described-good d zero q =
       let e = d .each 0 (omega arith) in
       record {
         place = record { channel = e .channel; correction = e .correction; starts = d .first (omega arith); within = e .within; ends = d .lastEnds 0 };
         stamp = e .stamp;
         order = refl;
       }
-  described-good d (suc j) p q =
+  described-good d (suc j) q =
       let e = d .each (suc j) (omega arith) in
       record {
         place = record { channel = e .channel; correction = e .correction; starts = d .noGap j (omega arith); within = e .within; ends = d .lastEnds (suc j) };
@@ -97,27 +99,30 @@ module _ (f : RecordForm) (s : List ℕ) where
         order = d .order j (omega arith);
       }
 
-  pub good-described : HeaderDescribed f s → AllGood f s 0 (countOf s) → Described f s
+  pub good-described : HeaderDescribed f s → EachGood f s → Described f s
   unfolding recordAt
   good-described h g =
       record {
         header = h;
         each = λ i p.
-            let e = g i (omega arith) (omega arith) in
+            let e = g i (omega arith) in
             record { channel = e .place .channel; correction = e .place .correction; within = e .place .within; stamp = e .stamp };
-        first = λ p. g 0 (omega arith) (omega arith) .place .starts;
-        noGap = λ i p. g (suc i) (omega arith) (omega arith) .place .starts;
-        lastEnds = λ i p. g i (omega arith) (omega arith) .place .ends p;
-        order = λ i p. g (suc i) (omega arith) (omega arith) .order;
+        first = λ p. g 0 (omega arith) .place .starts;
+        noGap = λ i p. g (suc i) (omega arith) .place .starts;
+        lastEnds = λ i p. g i (omega arith) .place .ends p;
+        order = λ i p. g (suc i) (omega arith) .order;
       }
 
-  pub described-read : (stop : Record → Bool) → Described f s → walkFile f s stop ≡ taken (upTo stop (recordsOf f s))
-  described-read stop d = file-walk stop (header-is (d .header)) ∙ walk-good f s stop 0 (countOf s) (described-good d)
+  all-reach : Described f s → Reach f s never 0 (countOf s) (countOf s)
+  all-reach d =
+      record { low = omega arith; high = omega arith; good = λ j p q. described-good d j q; on = λ j p q. refl; ends = λ l. absurd (omega arith) }
+
+  pub all-read : Described f s → walkFile f s never ≡ taken (recordsFrom f s 0 (countOf s - 0))
+  all-read d = file-walk never (header-is (d .header)) ∙ reach-walk f s never 0 (countOf s) (countOf s) (all-reach d)
 
   pub described-full : Described f s → fullReading f s ≡ records (countOf s)
   unfolding fullReading
-  described-full d =
-      ap numbered (described-read never d ∙ ap taken (up-to-never (recordsOf f s))) ∙ ap records (records-length f s 0 (countOf s))
+  described-full d = ap numbered (all-read d) ∙ ap records (records-length f s 0 (countOf s - 0) ∙ omega arith)
 
   was-taken : (w : Walked) (n : ℕ) → numbered w ≡ records n → (rs : List Record) × (w ≡ taken rs)
   was-taken (taken rs) n e = (rs, refl)
@@ -127,7 +132,12 @@ module _ (f : RecordForm) (s : List ℕ) where
   taken-described rs e = go (headerGood f s) refl
     where
       go : (b : Bool) → headerGood f s ≡ b → Described f s
-      go true h = good-described (header-told h) (good-walk f s 0 (countOf s) rs (sym (file-walk never h) ∙ e))
+      go true h =
+          let t = walk-reach f s never 0 (countOf s) rs (sym (file-walk never h) ∙ e) in
+          good-described (header-told h) (λ j q. t .1 .good j (omega arith) (all (t .0) (t .1) j q))
+        where
+          all : (k : ℕ) → Reach f s never 0 (countOf s) k → (j : ℕ) → j < countOf s → j < k
+          all k r j q = ⊎-elim (λ (l : j < k). l) (λ (l : k ≤ j). let t = r .ends (omega arith) in absurd (let z : _≡_ {A = ℕ} 0 1 = cc in omega arith)) (lt-or-le j k)
       go false h = let k = file-fault never h in absurd (let z : _≡_ {A = ℕ} 0 1 = cc in omega arith)
 
   pub read-described : (n : ℕ) → fullReading f s ≡ records n → Described f s

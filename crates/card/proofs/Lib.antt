@@ -1,10 +1,14 @@
 pub mod Bench
+pub mod BenchOfQuestions
 pub mod Tests
 pub mod Slices
 pub mod Described
 pub mod Stepping
 pub mod Walking
 pub mod Exactly
+pub mod Asking
+pub mod Fixed
 pub mod FirstFault
 pub mod Limits
+pub mod Greatest
 pub mod Turns

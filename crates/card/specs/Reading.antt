@@ -4,7 +4,6 @@
 --   walk f s stop i n b      reading from record i on, n records to go, after b: up to the first record for which `stop` holds, which is read too
 --   walkFile f s stop        the same from the front, with the header's test
 --   never                    the test that no record meets: then all records are read
---   upTo stop rs             of a list of records, those up to the first for which `stop` holds, that one too
 --   FullReading              what full reading answers: `records n`, the number of records, or `refusedAt p m`, refused with m at the place p
 --   fullReading f s          full reading
 --   recordAsked f s place    the record at a place, from one, of an accepted file, with its stamp's start within the file
@@ -45,10 +44,6 @@ walkFile f s stop = elim (headerGood f s) [ true ↦ walk f s stop 0 (countOf s)
 
 abbrev pub never : Record → Bool
 never r = false
-
-unfoldable pub upTo : (Record → Bool) → List Record → List Record
-upTo stop [] = []
-upTo stop (r ∷ rs) = r ∷ elim (stop r) [ true ↦ [] | false ↦ upTo stop rs ]
 
 pub data FullReading : Type 0 where
   records : ℕ → FullReading

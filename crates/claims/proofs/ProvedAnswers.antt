@@ -74,7 +74,7 @@ instants-answers = (
 )
 
 pub schedule-answers : ScheduleAnswers
-schedule-answers = (schedule.one-number, schedule.one-read, schedule.one-record-at)
+schedule-answers = (schedule.one-number, schedule.one-read, schedule.one-record-at, schedule.one-holds)
 
 pub boundary-answers : BoundaryAnswers
 boundary-answers = (
@@ -87,4 +87,5 @@ boundary-answers = (
   boundary.one-stamp-restate,
   boundary.one-stamp-schedule-read,
   boundary.one-stamp-schedule-record,
+  boundary.one-stamp-schedule-holds,
 )

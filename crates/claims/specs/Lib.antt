@@ -6,5 +6,6 @@ pub mod Calendar
 pub mod Examples
 pub mod Instants
 pub mod Schedule
+pub mod Holding
 pub mod CodeClaims
 pub mod OneAnswer

@@ -1,7 +1,7 @@
 -- One answer: no two different answers meet the promise of a public call, whatever it is given. (01, What the promises have to say.)
 -- Each promise has the name that the call's contract cites (`specs/Calls.antt` of `calendar`, `values`, `stamp`, `instants` and `schedule`, `specs/Boundary.antt`, `specs/Utc.antt` and `specs/Files.antt` of `boundary`); `OneAnswer P`
 -- says that no two different answers meet P, and `OneWriting P` the same of a writer's answer and every octet of the buffer that it leaves; `OneWritingForC`, `OneReadingForC`,
--- `OneNumberForC`, `OneCountForC` of the C functions.
+-- `OneNumberForC`, `OneCountForC`, `OneHoldingForC` of the C functions.
 use Prim.Native.Nat.{ℕ}
 use mathlib.Core.Path.{_≡_}
 use mathlib.Core.Bool.{Bool}
@@ -108,8 +108,10 @@ ScheduleAnswers =
     ((f : ScheduleRefusal) → OneAnswer (schedule.RefusalNumber f))
     × ((s : List ℕ) → OneAnswer (schedule.ReadsFile s))
     × ((s : List ℕ) (p : ℕ) → OneAnswer (schedule.FindsRecord s p))
+    × ((s : List ℕ) (i : Instant) (c : ℕ) → OneAnswer (schedule.AsksFile s i c))
 
--- the C functions: the number, the count and every octet; the number and all parts; the number and the number handed over; the number and both counts
+-- the C functions: the number, the count and every octet; the number and all parts; the number and the number handed over; the number and both counts; the number, the
+-- count and all parts
 abbrev pub OneWritingForC : (List ℕ → ℕ → ℕ → List ℕ → Type 0) → Type 0
 OneWritingForC P =
     (lent : List ℕ) (r r′ count count′ : ℕ) (left left′ : List ℕ) → P lent r count left → P lent r′ count′ left′
@@ -124,6 +126,11 @@ OneNumberForC P = (lent : ℤ) (r r′ : ℕ) (left left′ : ℤ) → P lent r 
 abbrev pub OneCountForC : (ℕ → ℕ → ℕ → Type 0) → Type 0
 OneCountForC P = (r r′ count count′ place place′ : ℕ) → P r count place → P r′ count′ place′ → (r ≡ r′) × (count ≡ count′) × (place ≡ place′)
 
+abbrev pub OneHoldingForC : (List ℤ → ℕ → ℕ → List ℤ → Type 0) → Type 0
+OneHoldingForC P =
+    (lent : List ℤ) (r r′ count count′ : ℕ) (left left′ : List ℤ) → P lent r count left → P lent r′ count′ left′
+    → (r ≡ r′) × (count ≡ count′) × (left ≡ left′)
+
 abbrev pub BoundaryAnswers : Type 0
 BoundaryAnswers =
     ((n : ℕ) (t : format.Settings) (v : format.Value) → OneWritingForC (boundary.WritesNumbered n t v))
@@ -135,3 +142,4 @@ BoundaryAnswers =
     × ((v : format.Value) (o : ℤ) → OneReadingForC (utc.RestateForC v o))
     × ((s : List ℕ) → OneCountForC (files.ReadForC s))
     × ((s : List ℕ) (p : ℕ) → OneReadingForC (files.RecordForC s p))
+    × ((s : List ℕ) (t : ℤ) (c : ℕ) → OneHoldingForC (files.HoldsForC s t c))

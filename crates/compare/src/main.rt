@@ -46,6 +46,7 @@ fn answer(out: &mut [u8], case: &[u8]) -> usize {
         b'S' => utc::answer_restated(out, case),
         b'F' => schedules::answer_full(out, case),
         b'P' => schedules::answer_record(out, case),
+        b'Q' => schedules::answer_question(out, case),
         _ => answers::unknown(out),
     }
 }

@@ -8,6 +8,7 @@
 //   S year month day micros offset to                                 to: the other offset
 //   F hex                                                             hex as for R, but at most 65,536 octets: a schedule file
 //   P place hex                                                       hex as for F
+//   Q instant channel hex                                             hex as for F
 // Where no limit is named: an offset and `to` are any numbers of 32 bits, an instant, `span` and `other` of 64, and these may have a minus;
 // micros is any number of 64 bits without one, and the rest are of 32.
 use crate::fields;

@@ -3,5 +3,7 @@ pub mod Ranges
 pub mod Timing
 pub mod Stepping
 pub mod Walking
+pub mod Endings
 pub mod Finding
+pub mod Answers
 pub mod OneAnswer

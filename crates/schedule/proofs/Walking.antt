@@ -1,34 +1,40 @@
--- The walk over all records. Assumes nothing.
---     low, walk-low    before the first record the code has the least number for the last instant: no instant is below it
---     taken-is         a record that a step took is the one at its place
---     keep-on          the instant of the record at the place asked for is kept, once it was taken
-use mathlib.Core.Path.{_≡_, refl, sym, ap}
-use mathlib.Core.Logic.{⊎-elim}
-use mathlib.Core.Bool.{true}
+-- A walk over the records. Assumes nothing.
+--     low, walk-low     before the first record the code has the least number for the last instant: no instant is below it
+--     taken-is          a record that a step took is the one at its place
+--     wanted-later      a later record is not wanted
+--     wanted-on, held-on, keep-on    one that is not later is kept where its channel or its place is wanted
+use mathlib.Core.Path.{_≡_, refl, sym, ap, _∙_}
+use mathlib.Core.Bool.{Bool, true, false}
 use mathlib.Core.List.{List}
-use Prim.Native.Nat.{ℕ, zero, suc, _+_, _≤_, _<_}
+use Prim.Native.Nat.{ℕ, zero, suc, _+_, _<_}
 use native.Mathlib.Omega.{arith}
 use lib.IntN.{ℤ, negsuc}
 use lib.Dec.{eqb}
 use lib.Signed.{leZ}
-use borrow.Author.Tests.{eq-eqb, ne-eqb}
-use Rattle.format.specs.Words.{pick, Outcome, accepted, refused, unless}
+use Rattle.format.specs.Words.{pick, either, Outcome, accepted, refused, unless}
 use Rattle.format.specs.Octets.{Octets}
 use Rattle.format.specs.Values.{DatetimeTz, Answer}
 use Rattle.format.specs.Reading.{read}
-use Rattle.format.proofs.Cases.{both-true, eq-or-ne, lt-or-le}
+use Rattle.format.proofs.Cases.{both-true}
 use Rattle.format.proofs.Round.{was-read}
 use Rattle.moments.specs.Instant.{instantOf, leastInstant, isInstant}
 use Rattle.moments.proofs.Limits.{within}
 use Rattle.card.specs.Header.{twelve}
-use Rattle.card.specs.Records.{stampAt, startAt, lengthAt, instantAt, recordAt}
+use Rattle.card.specs.Records.{stampAt, startAt, lengthAt, instantAt, recordAt, Record as FileRecord}
 use Rattle.card.specs.Step.{at, none, Before as FileBefore, atFront, after, placeGood, fieldsGood, timed, step}
-use Rattle.card.specs.Reading.{walk, never, goOn}
+use Rattle.card.specs.Reading.{walk, goOn}
+use Rattle.card.specs.Question.{holds}
 use Rattle.card.proofs.Tests.{leZ-trans}
 use Rattle.card.proofs.Stepping.{step-good}
 use Rattle.card.proofs.Limits.{stamp-octets}
+use Rattle.schedule.specs.declared.Refusal.{Refusal}
 use Rattle.schedule.specs.declared.walk.Taken.{Taken}
-use Rattle.schedule.specs.Steps.{taken, Kept}
+use Rattle.schedule.specs.declared.walk.Stepped.{Stepped}
+use Rattle.schedule.specs.declared.walk.Stepped.the-variants as S
+use Rattle.schedule.specs.declared.walk.Wanted.{Wanted}
+use Rattle.schedule.specs.declared.walk.Kept.{Kept}
+use Rattle.schedule.specs.Meaning.{refusalNumber}
+use Rattle.schedule.specs.Steps.{taken, stepped, wantedBy, heldAt, KeptOf}
 use Rattle.schedule.proofs.Stepping.{fields-small}
 
 abbrev pub low : FileBefore
@@ -50,13 +56,20 @@ module _ (s : List ℕ) (o : Octets s) where
       go (accepted a) e = rw (above-low a i e)
       go (refused n) e = refl
 
-  pub walk-low : (n : ℕ) → walk twelve s never 0 n low ≡ walk twelve s never 0 n atFront
+  pub walk-low : (stop : FileRecord → Bool) (n : ℕ) → walk twelve s stop 0 n low ≡ walk twelve s stop 0 n atFront
   unfolding walk
-  walk-low zero = refl
-  walk-low (suc n) = ap (λ x. goOn never 1 x (λ r. walk twelve s never 1 n (after r))) (step-low 0)
+  walk-low stop zero = refl
+  walk-low stop (suc n) = ap (λ x. goOn stop 1 x (λ r. walk twelve s stop 1 n (after r))) (step-low 0)
 
-pub taken-is : (s : List ℕ) (i : ℕ) (b : FileBefore) (t : Taken) → accepted (taken i t) ≡ step twelve s i b → taken i t ≡ recordAt twelve s i
-taken-is s i b t e = step-good twelve s i b (taken i t) (sym e) .1
+-- what a step answered
+pub step-took : (s : List ℕ) (i : ℕ) (b : FileBefore) (t : Taken) (r : Stepped) → r ≡ S.Taken t → stepped i r ≡ step twelve s i b → step twelve s i b ≡ accepted (taken i t)
+step-took s i b t r e h = sym h ∙ ap (stepped i) e
+
+pub step-bad : (s : List ℕ) (i : ℕ) (b : FileBefore) (f : Refusal) (r : Stepped) → r ≡ S.Refused f → stepped i r ≡ step twelve s i b → step twelve s i b ≡ refused (refusalNumber f)
+step-bad s i b f r e h = sym h ∙ ap (stepped i) e
+
+pub taken-is : (s : List ℕ) (i : ℕ) (b : FileBefore) (t : Taken) → step twelve s i b ≡ accepted (taken i t) → taken i t ≡ recordAt twelve s i
+taken-is s i b t e = step-good twelve s i b (taken i t) e .1
 
 pub taken-small : (s : List ℕ) (i : ℕ) (t : Taken) → Octets s → taken i t ≡ recordAt twelve s i → (t .fields .start < 4294967296) × (t .fields .length < 65536)
 unfolding recordAt
@@ -70,12 +83,28 @@ pub taken-instant : (s : List ℕ) (i : ℕ) (t : Taken) → taken i t ≡ recor
 unfolding recordAt
 taken-instant s i t e = ap (λ r. r .instant) e
 
-pub keep-on : (s : List ℕ) (place i : ℕ) (t k : ℤ) → t ≡ instantAt twelve s i → Kept s place i k → Kept s place (i + 1) (pick (eqb (i + 1) place) t k)
-keep-on s place i t k e h j p q =
-    ⊎-elim
-    (λ (l : i + 1 ≡ place). let z : i ≡ j = omega arith in rw (eq-eqb (i + 1) place l) (rw z at e))
-    (λ (l : i + 1 ≡ place → ⊥). rw (ne-eqb (i + 1) place l) (h j p (less l)))
-    (eq-or-ne (i + 1) place)
-  where
-    less : (i + 1 ≡ place → ⊥) → place ≤ i
-    less l = ⊎-elim (λ (x : i < place). absurd (l (omega arith))) (λ (x : place ≤ i). x) (lt-or-le i place)
+-- ---- what is kept
+
+pub wanted-later : (t : ℤ) (w : Wanted) (r : FileRecord) → leZ (r .instant) t ≡ false → wantedBy t w r ≡ false
+wanted-later t w r e = rw e
+
+module _ (s : List ℕ) (w : Wanted) (i : ℕ) (t : Taken) (e : taken i t ≡ recordAt twelve s i) where
+  abbrev wants : Bool
+  wants = either (eqb (t .fields .channel) (w .channel)) (eqb (i + 1) (w .place))
+
+  pub wanted-on : (u : ℤ) → leZ (t .instant) u ≡ true → wantedBy u w (taken i t) ≡ wants
+  wanted-on u l = let k : i + 1 ≡ suc i = omega arith in rw (l, k)
+
+  pub held-on : (k : Kept) → heldAt s (pick wants (record { place = i + 1; instant = t .instant }) k .place) ≡ pick wants (holds (taken i t)) (heldAt s (k .place))
+  held-on k = go wants
+    where
+      go : (b : Bool) → heldAt s (pick b (record { place = i + 1; instant = t .instant }) k .place) ≡ pick b (holds (taken i t)) (heldAt s (k .place))
+      go true = let z : i + 1 ≡ suc i = omega arith in ap (heldAt s) z ∙ ap holds (sym e)
+      go false = refl
+
+  pub keep-on : (k : Kept) → KeptOf s i k → KeptOf s (i + 1) (pick wants (record { place = i + 1; instant = t .instant }) k)
+  keep-on k h = go wants
+    where
+      go : (b : Bool) → KeptOf s (i + 1) (pick b (record { place = i + 1; instant = t .instant }) k)
+      go true j p = let z : i ≡ j = omega arith in (omega arith, rw z at (taken-instant s i t e))
+      go false j p = let x = h j p in (omega (arith, x .0), x .1)

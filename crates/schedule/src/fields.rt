@@ -41,7 +41,7 @@ pub(crate) fn fields_at(file: &[u8], i: usize) -> Fields
 
 // ---- what refusal 14 tests
 
-fn is_channel(channel: u32) -> bool
+pub(crate) fn is_channel(channel: u32) -> bool
     ensures { λ r. ⌜ r ≡ channelGood channel ⌝ }
 {
     if channel < 1 {

@@ -1,18 +1,22 @@
-// The schedule file that operators carry on a memory card: full reading, and the record at a place. Each call takes a file of any content and length.
-ghost use Rattle.schedule.specs.Calls.{RefusalNumber, ReadsFile, FindsRecord};
+// The schedule file that operators carry on a memory card: full reading, the record at a place, and which correction holds at an instant. Each call takes a file
+// of any content and length.
+ghost use mathlib.Core.Path.{_≡_};
+ghost use Rattle.schedule.specs.Steps.{refusedAsk};
+ghost use Rattle.schedule.specs.Calls.{RefusalNumber, ReadsFile, FindsRecord, AsksFile};
 
 mod fields;
 mod header;
 mod stamps;
 mod walk;
 
-use crate::walk::Taken;
+use crate::walk::Shown;
 use crate::walk::Walk;
+use crate::walk::Wanted;
 use instants::Instant;
 
 // In the numbers of documents 01 and 02.
 pub enum Refusal {
-    // One of document 01's: 5 to 8 for a record's stamp, 2 for a place at which the file has no record.
+    // One of document 01's: 5 to 8 for a record's stamp, 2 for a place at which the file has no record, and for a channel that is not 1 to 16.
     Base(values::Refusal),
     // 13: header, counts or regions.
     Header,
@@ -48,6 +52,19 @@ pub enum Found {
     Refused(Refusal),
 }
 
+// What holds on a channel at an instant: the last record of the channel at or before it, or none yet.
+pub enum Held {
+    NoneYet,
+    Record(Record),
+    Refused(Refusal),
+}
+
+// With the number of records read: the place of the first record later than the instant, from one, or all; and 0 with a refusal.
+pub struct Asked {
+    pub read: u32,
+    pub held: Held,
+}
+
 impl FullReading {
     pub const MOST_RECORDS: u32 = 1_000;
 }
@@ -77,8 +94,12 @@ impl Refusal {
 pub fn read(file: &[u8]) -> FullReading
     ensures { λ r. ⌜ ReadsFile (now (file .entry)) r ⌝ }
 {
-    match walk::whole(file, 0) {
-        Walk::Ended(records, _) => FullReading::Records(records),
+    let wanted = Wanted {
+        channel: 0,
+        place: 0,
+    };
+    match walk::up_to(file, i64::MAX, wanted) {
+        Walk::Ended(ended) => FullReading::Records(ended.read),
         Walk::Refused(refusal, place) => FullReading::Refused(refusal, place),
     }
 }
@@ -87,20 +108,42 @@ pub fn read(file: &[u8]) -> FullReading
 pub fn record_at(file: &[u8], place: u32) -> Found
     ensures { λ r. ⌜ FindsRecord (now (file .entry)) place r ⌝ }
 {
-    match walk::whole(file, place) {
-        Walk::Ended(records, instant) => {
-            if place < 1 {
-                return Found::Refused(Refusal::Base(values::Refusal::Value));
-            }
-            if records < place {
-                return Found::Refused(Refusal::Base(values::Refusal::Value));
-            }
-            let taken = Taken {
-                fields: fields::fields_at(file, (place - 1) as usize),
-                instant,
-            };
-            Found::Record(taken.in_file(place, records))
-        }
+    match walk::up_to(file, i64::MAX, Wanted { channel: 0, place }) {
+        Walk::Ended(ended) => match ended.shown(file) {
+            Shown::None => Found::Refused(Refusal::Base(values::Refusal::Value)),
+            Shown::Record(kept) => Found::Record(kept),
+        },
         Walk::Refused(refusal, _) => Found::Refused(refusal),
+    }
+}
+
+fn refused(refusal: Refusal) -> Asked
+    ensures { λ r. ⌜ r ≡ refusedAsk refusal ⌝ }
+{
+    Asked {
+        read: 0,
+        held: Held::Refused(refusal),
+    }
+}
+
+// Which correction holds on a channel at an instant, any instant. Records behind the first that is later are not looked at.
+pub fn holds(file: &[u8], instant: Instant, channel: u32) -> Asked
+    ensures { λ r. ⌜ AsksFile (now (file .entry)) instant channel r ⌝ }
+{
+    if !fields::is_channel(channel) {
+        return refused(Refusal::Base(values::Refusal::Value));
+    }
+    match walk::up_to(file, instant.micros, Wanted { channel, place: 0 }) {
+        Walk::Ended(ended) => match ended.shown(file) {
+            Shown::None => Asked {
+                read: ended.read,
+                held: Held::NoneYet,
+            },
+            Shown::Record(kept) => Asked {
+                read: ended.read,
+                held: Held::Record(kept),
+            },
+        },
+        Walk::Refused(refusal, _) => refused(refusal),
     }
 }

@@ -1,10 +1,11 @@
 // From record to record, from the front. Whoever reads a file takes the same step.
 ghost use mathlib.Core.Path.{_≡_};
 ghost use Prim.Native.Nat.{_≤_, _<_};
-ghost use Rattle.format.specs.Words.{pick};
+ghost use lib.Dec.{eqb};
+ghost use Rattle.format.specs.Words.{pick, either};
 ghost use Rattle.card.specs.Header.{twelve};
 ghost use Rattle.card.specs.Step.{step};
-ghost use Rattle.schedule.specs.Steps.{Says, beforeFrom, stepped, shown, Walks};
+ghost use Rattle.schedule.specs.Steps.{Says, beforeFrom, stepped, shown, Walks, Ends, ShowsKept};
 use crate::Record;
 use crate::Refusal;
 use crate::fields;
@@ -33,10 +34,35 @@ pub(crate) enum Stepped {
     Refused(Refusal),
 }
 
-// What comes of a whole file: the number of its records, and the instant of the one at the place asked for, if it is there; or the refusal and its place.
+// Which record a walk keeps: the last of this channel, or the one at this place, from one. No record has the channel 0 or the place 0.
+pub(crate) struct Wanted {
+    pub channel: u32,
+    pub place: u32,
+}
+
+// The record that was kept, by its place and its instant: its fields stand in the file. The place 0 is none.
+pub(crate) struct Kept {
+    pub place: u32,
+    pub instant: i64,
+}
+
+// How many records were read, of how many in the file, and what was kept.
+pub(crate) struct Ended {
+    pub read: u32,
+    pub records: u32,
+    pub kept: Kept,
+}
+
+// A refusal, and the place of the record, from one; 0 is the header.
 pub(crate) enum Walk {
-    Ended(u32, i64),
+    Ended(Ended),
     Refused(Refusal, u32),
+}
+
+// What a walk shows of the file.
+pub(crate) enum Shown {
+    None,
+    Record(Record),
 }
 
 // What comes of record i, from 0 on.
@@ -64,16 +90,33 @@ pub(crate) fn step(file: &[u8], regions: Regions, i: u32, before: Before) -> Ste
     }
 }
 
-fn choose(wanted: bool, instant: i64, kept: i64) -> i64
-    ensures { λ r. ⌜ r ≡ pick wanted instant kept ⌝ }
-{
-    if wanted { instant } else { kept }
+impl Wanted {
+    fn has(self, channel: u32, place: u32) -> bool
+        ensures { λ r. ⌜ r ≡ either (eqb channel (self .channel)) (eqb place (self .place)) ⌝ }
+    {
+        if channel == self.channel {
+            return true;
+        }
+        place == self.place
+    }
 }
 
-// All records, of which the instant of the one at `place`, from one, is kept: the fields stand in the file. No instant is below the least number, which so
-// stands for none.
-pub(crate) fn whole(file: &[u8], place: u32) -> Walk
-    ensures { λ r. ⌜ Walks (now (file .entry)) place r ⌝ }
+impl Kept {
+    fn or(self, wanted: bool, place: u32, instant: i64) -> Kept
+        ensures { λ r. ⌜ r ≡ pick wanted (record { place = place; instant = instant }) self ⌝ }
+    {
+        if wanted {
+            Kept { place, instant }
+        } else {
+            self
+        }
+    }
+}
+
+// The records from the front, up to the first that is later than `until`, which is read too. No instant is below the least number, which so stands for none
+// before the first record, and none is above the greatest: up to that the whole file is read.
+pub(crate) fn up_to(file: &[u8], until: i64, wanted: Wanted) -> Walk
+    ensures { λ r. ⌜ Walks (now (file .entry)) until wanted r ⌝ }
 {
     let Header::Good(regions) = header::read(file) else {
         return Walk::Refused(Refusal::Header, 0);
@@ -83,14 +126,24 @@ pub(crate) fn whole(file: &[u8], place: u32) -> Walk
         ended: 0,
         last: i64::MIN,
     };
-    let mut kept = 0;
+    let mut kept = Kept {
+        place: 0,
+        instant: 0,
+    };
     let mut i = 0;
     while i < records {
         match step(file, regions, i, before) {
             Stepped::Taken(taken) => {
                 i += 1;
-                kept = choose(i == place, taken.instant, kept);
+                if until < taken.instant {
+                    return Walk::Ended(Ended {
+                        read: i,
+                        records,
+                        kept,
+                    });
+                }
                 let fields = taken.fields;
+                kept = kept.or(wanted.has(fields.channel, i), i, taken.instant);
                 before = Before {
                     ended: fields.end(),
                     last: taken.instant,
@@ -99,7 +152,11 @@ pub(crate) fn whole(file: &[u8], place: u32) -> Walk
             Stepped::Refused(refusal) => return Walk::Refused(refusal, i + 1),
         }
     }
-    Walk::Ended(records, kept)
+    Walk::Ended(Ended {
+        read: i,
+        records,
+        kept,
+    })
 }
 
 impl Taken {
@@ -117,5 +174,24 @@ impl Taken {
             correction: fields.correction,
             instant: Instant::new(self.instant),
         }
+    }
+}
+
+impl Ended {
+    // The record that was kept, if any.
+    pub(crate) fn shown(self, file: &[u8]) -> Shown
+        requires { ⌜ Ends (now file) self ⌝ }
+        ensures { λ r. ⌜ ShowsKept (now (file .entry)) self r ⌝ }
+    {
+        let kept = self.kept;
+        let place = kept.place;
+        if place == 0 {
+            return Shown::None;
+        }
+        let taken = Taken {
+            fields: fields::fields_at(file, (place - 1) as usize),
+            instant: kept.instant,
+        };
+        Shown::Record(taken.in_file(place, self.records))
     }
 }
