@@ -169,8 +169,8 @@ uint32_t stamp_schedule_read(const uint8_t *file, size_t length, uint32_t *recor
  * names. */
 uint32_t stamp_schedule_record(const uint8_t *file, size_t length, uint32_t place, int64_t parts[5]);
 
-/* Which correction holds on a channel at an instant: that of the last record of the channel at or before the instant,
- * which may be any number. The file is read from the front, up to the first record later than the instant; that one is
+/* Which correction holds on a channel at an instant: that of the last record of the channel at or before the instant.
+ * Any instant may be asked. The file is read from the front, up to the first record later than the instant; that one is
  * read too, and those behind it are not looked at. Answers the refusal number, 0 for none. *read is the number of
  * records read: the place of that later record, from one, or all; and 0 after a refusal. parts: place of the record
  * that holds, from one, start of its stamp within the file, its length, instant, correction. If none holds yet, the

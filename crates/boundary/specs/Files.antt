@@ -9,8 +9,8 @@
 --   ReadForC s r records fault  the promise of `stamp_schedule_read`, which answers r and leaves the two numbers so
 --   RecordForC s p lent r left  the promise of `stamp_schedule_record`
 --   heldNumbers r            a record that holds as five numbers: place, start of its stamp, length of its stamp, instant, correction
---   askedNumbers a           what holds, as five numbers: each 0 where none does yet
---   askedInWords o           `inWords`, of a record that holds
+--   heldOrZeros h            what holds, as five numbers: each 0 where none does yet; `askedNumbers a` of an answer
+--   heldInWords h            `inWords`, of a record that holds; `askedInWords o` of an answer
 --   HandsAsked o lent r left    what is handed over of a question, in five numbers
 --   HoldsForC s t c lent r count left   the promise of `stamp_schedule_holds`, which answers r and leaves the number of records read and the five numbers so
 use Prim.Native.Nat.{ℕ, _<_, _^_}
@@ -59,12 +59,12 @@ RecordForC s p lent r left = HandsRecord (recordAsked twelve s p) lent r left
 unfoldable pub heldNumbers : Record → List ℤ
 heldNumbers r = pos (r .place) ∷ pos (r .start) ∷ pos (r .size) ∷ r .instant ∷ r .correction ∷ []
 
-abbrev pub numbersHeld : Held → List ℤ
-numbersHeld noneYet = pos 0 ∷ pos 0 ∷ pos 0 ∷ pos 0 ∷ pos 0 ∷ []
-numbersHeld (holds r) = heldNumbers r
+abbrev pub heldOrZeros : Held → List ℤ
+heldOrZeros noneYet = pos 0 ∷ pos 0 ∷ pos 0 ∷ pos 0 ∷ pos 0 ∷ []
+heldOrZeros (holds r) = heldNumbers r
 
 abbrev pub askedNumbers : Asked → List ℤ
-askedNumbers a = numbersHeld (a .held)
+askedNumbers a = heldOrZeros (a .held)
 
 abbrev pub heldInWords : Held → Type 0
 heldInWords noneYet = Unit {0}

@@ -23,7 +23,7 @@ use Rattle.card.specs.BenchOfQuestions.{Holding, LastOfTwo, NoneYet, OfC
 
 pub holding : Holding
 unfolding countOf stampOctets stampsStart headerGood startAt lengthAt channelAt correctionAt stampAt instantAt recordAt channelGood placed placeGood fieldsGood step walk walkFile card fileOf rowOctets stamps headerOf localOf ahead instantOf unsignedOctets unsignedAt signedOctets more signedOf firstFrom fewestOctets sumFrom leap yearLength monthLength isDay dayNumber timeInRange offsetInRange inRange areDigits numberAt digitsOf width put fitsAt saysAt widths puts fit says layout textLength fractionUnit textNumbers textImage digitsFrom digitsFound minusZero clockInRange numbersInRange textValue readFields readText perDay start count number greatest carried hasCompact paddedTo numberOctets compactImage shortest longestPlain carriedIn numberInRange usual compactValue readNumber readCompact headBits dayWidth offsetFrom extendedValue readExtended firstBits formIn readIn read place dayOf heldBy lastFrom question
-holding = (refl, refl, refl, refl, refl, refl, refl)
+holding = (refl, refl, refl, refl, refl, refl, refl, refl, refl)
 
 pub last-of-two : LastOfTwo
 unfolding countOf stampOctets stampsStart headerGood startAt lengthAt channelAt correctionAt stampAt instantAt recordAt channelGood placed placeGood fieldsGood step walk walkFile card fileOf rowOctets stamps headerOf localOf ahead instantOf unsignedOctets unsignedAt signedOctets more signedOf firstFrom fewestOctets sumFrom leap yearLength monthLength isDay dayNumber timeInRange offsetInRange inRange areDigits numberAt digitsOf width put fitsAt saysAt widths puts fit says layout textLength fractionUnit textNumbers textImage digitsFrom digitsFound minusZero clockInRange numbersInRange textValue readFields readText perDay start count number greatest carried hasCompact paddedTo numberOctets compactImage shortest longestPlain carriedIn numberInRange usual compactValue readNumber readCompact headBits dayWidth offsetFrom extendedValue readExtended firstBits formIn readIn read place dayOf heldBy lastFrom question
@@ -35,8 +35,8 @@ none-yet = (refl, refl, refl, refl, refl)
 
 pub of-channels : OfChannels
 unfolding countOf stampOctets stampsStart headerGood startAt lengthAt channelAt correctionAt stampAt instantAt recordAt channelGood placed placeGood fieldsGood step walk walkFile card fileOf rowOctets stamps headerOf localOf ahead instantOf unsignedOctets unsignedAt signedOctets more signedOf firstFrom fewestOctets sumFrom leap yearLength monthLength isDay dayNumber timeInRange offsetInRange inRange areDigits numberAt digitsOf width put fitsAt saysAt widths puts fit says layout textLength fractionUnit textNumbers textImage digitsFrom digitsFound minusZero clockInRange numbersInRange textValue readFields readText perDay start count number greatest carried hasCompact paddedTo numberOctets compactImage shortest longestPlain carriedIn numberInRange usual compactValue readNumber readCompact headBits dayWidth offsetFrom extendedValue readExtended firstBits formIn readIn read place dayOf heldBy lastFrom question
-of-channels = (refl, refl, refl, refl, refl, refl)
+of-channels = (refl, refl, refl, refl, refl, refl, refl)
 
 pub of-records-read : OfRecordsRead
 unfolding countOf stampOctets stampsStart headerGood startAt lengthAt channelAt correctionAt stampAt instantAt recordAt channelGood placed placeGood fieldsGood step walk walkFile card fileOf rowOctets stamps headerOf localOf ahead instantOf unsignedOctets unsignedAt signedOctets more signedOf firstFrom fewestOctets sumFrom leap yearLength monthLength isDay dayNumber timeInRange offsetInRange inRange areDigits numberAt digitsOf width put fitsAt saysAt widths puts fit says layout textLength fractionUnit textNumbers textImage digitsFrom digitsFound minusZero clockInRange numbersInRange textValue readFields readText perDay start count number greatest carried hasCompact paddedTo numberOctets compactImage shortest longestPlain carriedIn numberInRange usual compactValue readNumber readCompact headBits dayWidth offsetFrom extendedValue readExtended firstBits formIn readIn read place dayOf heldBy lastFrom question
-of-records-read = (refl, refl, refl, refl, refl, refl, refl, refl, refl, refl, refl, refl, refl)
+of-records-read = (refl, refl, refl, refl, refl, refl, refl, refl, refl, refl, refl, refl, refl, refl)

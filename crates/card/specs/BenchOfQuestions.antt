@@ -3,9 +3,9 @@
 --   asks s t c           the question of the instant t and the channel c
 --   midnight, dayAfter   the instants of the card: 2020-01-01T00:00 UTC, of its first two records, and the next day's start, of its third
 --   least, greatest      the ends of 64 bits
---   held n r             n records were read, and r holds; `none n`: none holds yet
+--   held n r             the answer: n records were read, and r holds; `none n`: none holds yet
 --   the1, the2, the3     the records of the card, as an answer has them
---   again                a second correction of channel 1 at midnight
+--   again                a second correction of channel 1 at midnight; `later` is a record of `Bench.antt`, of channel 2 at dayAfter
 use Prim.Native.Nat.{ℕ}
 use mathlib.Core.Path.{_≡_}
 use mathlib.Core.List.{List, [], _∷_}
@@ -14,7 +14,7 @@ use Rattle.format.specs.Words.{Outcome, accepted, refused}
 use Rattle.format.specs.Bench.{ascii}
 use Rattle.card.specs.Header.{twelve}
 use Rattle.card.specs.Records.{Record}
-use Rattle.card.specs.Question.{noneYet, holds, Asked, question}
+use Rattle.card.specs.Question.{noneYet, holds, Asked, question, recordsRead}
 use Rattle.card.specs.Bench.{Row, row, fileOf, first, second, third, later, card, with}
 
 abbrev pub asks : List ℕ → ℤ → ℕ → Outcome Asked
@@ -50,7 +50,7 @@ the3 = record { place = 3; start = 84; size = 10; channel = 1; correction = pos 
 abbrev pub again : Row
 again = row (first .stamp) 1 (pos 7)
 
--- at, before and after each instant of the card, of channels that have records; the later record is counted
+-- at, before and after each instant of the card, of channels that have records; the later record is counted, and what stands behind it is not, good or bad
 abbrev pub Holding : Type 0
 Holding =
     (asks card midnight 1 ≡ held 3 the1)
@@ -60,6 +60,10 @@ Holding =
     × (asks card dayAfter 1 ≡ held 3 the3)
     × (asks card dayAfter 16 ≡ held 3 the2)
     × (asks card greatest 1 ≡ held 3 the3)
+    × (asks (fileOf (first ∷ second ∷ third ∷ later ∷ [])) midnight 1
+    ≡ held 3 (record { place = 1; start = 64; size = 25; channel = 1; correction = pos 1000000; instant = midnight }))
+    × (asks (fileOf (second ∷ third ∷ row [] 0 (pos 0) ∷ [])) midnight 16
+    ≡ held 2 (record { place = 1; start = 52; size = 7; channel = 16; correction = negℤ (pos 1000000); instant = midnight }))
 
 -- of two of a channel at one instant the last
 abbrev pub LastOfTwo : Type 0
@@ -75,10 +79,10 @@ NoneYet =
     (asks (fileOf []) midnight 1 ≡ none 0)
     × (asks card (pos 63713433599999999) 1 ≡ none 1)
     × (asks card least 16 ≡ none 1)
-    × (asks (fileOf (second ∷ third ∷ [])) midnight 1 ≡ none 2)
+    × (asks (fileOf (second ∷ third ∷ later ∷ [])) midnight 1 ≡ none 2)
     × (asks card greatest 2 ≡ none 3)
 
--- 2 before all that is wrong with the file; then 13
+-- 2 before all that is wrong with the file; then 13; a refusal carries 0
 abbrev pub OfChannels : Type 0
 OfChannels =
     (asks card midnight 0 ≡ refused 2)
@@ -87,6 +91,7 @@ OfChannels =
     × (asks [] midnight 0 ≡ refused 2)
     × (asks [] midnight 1 ≡ refused 13)
     × (asks (with 11 43) least 1 ≡ refused 13)
+    × (recordsRead (asks card midnight 17) ≡ 0)
 
 -- What is wrong with a record is met exactly when the record is read: one at or before the instant, or the first later one. Behind that it does not matter.
 abbrev pub OfRecordsRead : Type 0
@@ -104,3 +109,4 @@ OfRecordsRead =
     × (asks (fileOf (first ∷ row (ascii "2020-13-01T00:00:00+00:00") 1 (pos 0) ∷ [])) least 1 ≡ none 1)
     × (asks (fileOf (later ∷ first ∷ [])) dayAfter 1 ≡ refused 15)
     × (asks (fileOf (later ∷ first ∷ [])) midnight 1 ≡ none 1)
+    × (recordsRead (asks (with 35 17) midnight 1) ≡ 0)

@@ -4,8 +4,10 @@
 --   Held                    what holds: a record, or none yet
 --   later t r               the record r is later than the instant t
 --   heldBy t c r            it is of the channel c, and at or before t
---   lastOf p rs             the last record of the list for which the test p holds
+--   lastOf p rs             the last record of the list for which the test p holds, or none yet
+--   heldInFile f s h        h with its stamp's start within the file
 --   Asked                   an answer: the number of records read, and what holds
+--   answered f s t c w      the answer, from what reading came to
 --   question f s t c        what the question of the instant t and the channel c comes to
 --   recordsRead o           the number of records read, which a refusal carries too: 0
 use Prim.Native.Nat.{ℕ}
@@ -39,7 +41,6 @@ lastFrom p h (r ∷ rs) = lastFrom p (pick (p r) (holds r) h) rs
 abbrev pub lastOf : (Record → Bool) → List Record → Held
 lastOf p rs = lastFrom p noneYet rs
 
--- with its stamp's start within the file
 abbrev pub heldInFile : RecordForm → List ℕ → Held → Held
 heldInFile f s noneYet = noneYet
 heldInFile f s (holds r) = holds (inFile f s r)
@@ -49,6 +50,7 @@ pub record Asked : Type 0 where
   pub read : ℕ
   pub held : Held
 
+-- of what reading up to the first later record came to: that one is the last record read, so that their number is its place
 abbrev pub answered : RecordForm → List ℕ → ℤ → ℕ → Walked → Outcome Asked
 answered f s t c (taken rs) = accepted (record { read = length rs; held = heldInFile f s (lastOf (heldBy t c) rs) })
 answered f s t c (fault p n) = refused n

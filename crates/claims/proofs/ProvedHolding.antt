@@ -27,14 +27,14 @@ use Rattle.schedule.specs.declared.Record.{Record as GivenRecord}
 use Rattle.schedule.specs.declared.Refusal.{Refusal}
 use Rattle.schedule.specs.Meaning.{refusalNumber, recordFrom}
 use Rattle.schedule.specs.Calls.{AsksFile}
-use Rattle.boundary.specs.Files.{heldNumbers, numbersHeld, askedNumbers}
+use Rattle.boundary.specs.Files.{heldNumbers, heldOrZeros, askedNumbers}
 use Rattle.boundary.specs.Utc.{after}
-use Rattle.claims.specs.Schedule.{startOf, lengthOf, momentOf, Good, Card, shownAs}
-use Rattle.claims.specs.Holding.{NotLater, LastOf, NoneOf, FirstNot, OverAllRecords, Passed, Looked, SameOctets}
+use Rattle.claims.specs.Schedule.{Faulty, startOf, lengthOf, momentOf, Good, Card, shownAs}
+use Rattle.claims.specs.Holding.{LookedAt, Channel, NotLater, LastOf, NoneOf, FirstNot, OverAllRecords, Passed, Looked, SameOctets}
 use Rattle.claims.specs.Holding.{FixedByRead, RefusedAsFull, AtTheGreatest, CountNeverFalls, QuestionsMet, ReadUpTo, OwnQuestion, fiveNumbersHeld, QuestionToC}
 use Rattle.claims.proofs.OverPlaces.{to-header, from-header, moment-is, to-good, from-good}
 use Rattle.claims.proofs.ProvedSchedule.{file-accepted-exactly, first-in-turn, never-decrease, same-record}
-use Rattle.claims.proofs.AnyFile.{pass-is, first-reach, first-few, what-more, what-less, answered-then, then-answered, ask-refused-exactly}
+use Rattle.claims.proofs.AnyFile.{not-refused, pass-is, first-reach, first-few, what-more, what-less, answered-then, then-answered, ask-refused-exactly}
 
 -- ---- full reading, and files that it accepts
 
@@ -204,6 +204,56 @@ fixed-by-read s u t c k h l e a =
       stamp = octets-same s u (16 + 12 * unsignedAt s 0 4 + startOf s i) (lengthOf s i) (x .1);
     })
 
+-- ---- how many are looked at
+
+good-no-fault : (s : List ℕ) (i m : ℕ) → Good s i → Faulty s i m → ⊥
+good-no-fault s i m g f =
+    ⊎-elim
+    (λ x. x .0 (g .0))
+    (λ y. ⊎-elim (λ x. not-refused (sym (g .1 .1) ∙ x .1)) (λ x. x .2 (g .2)) y)
+    f
+
+looked-answered : (s : List ℕ) (t : ℤ) (c k : ℕ) (h : Held) → question twelve s t c ≡ accepted (record { read = k; held = h }) → Looked s t k
+looked-answered s t c k h e =
+    let x = answered-then s t c k h e .0 in
+    inr (
+      x .1,
+      ⊎-elim
+          (λ y. inl (y .0, λ j l. (x .3 j (omega (arith, y .0)), y .1 j l)))
+          (λ y. inr (y .0, y .1, y .2, λ p. y .3 (p .1), λ j l. (x .3 j (omega (arith, y .2)), y .4 j l)))
+          (x .2),
+    )
+
+looked-refused : (s : List ℕ) (t : ℤ) (c m : ℕ) → Channel c → question twelve s t c ≡ refused m → (k : ℕ) × Looked s t k × (fullReading twelve s ≡ refusedAt k m)
+looked-refused s t c m g e =
+    ⊎-elim
+    (λ x. absurd (x .0 g))
+    (λ y. ⊎-elim
+    (λ x. (0, inl (x .1, refl), first-in-turn s .0 m .1 (x .1, x .2)))
+    (λ x. (
+      suc (x .2 .0),
+      inr (x .1, inr (x .2 .0, x .2 .1, refl, λ p. good-no-fault s (x .2 .0) m (p .0) (x .2 .3), λ j l. x .2 .2 j l)),
+      first-in-turn s .1 (x .2 .0) m .1 (x .1, x .2 .1, λ j l. x .2 .2 j l .0, x .2 .3),
+    ))
+    y)
+    (ask-refused-exactly s t c m .0 e)
+
+looked-one : (s : List ℕ) (t : ℤ) (k l : ℕ) → Looked s t k → Looked s t l → l ≡ k
+looked-one s t k l a b = sym (seen-is s t l b) ∙ seen-is s t k a
+
+pub looked-at : LookedAt
+looked-at = (
+  λ s t. there-is s t (question twelve s t 1) refl,
+  λ s t c k g h. (
+    λ a e. looked-one s t k (a .read) h (looked-answered s t c (a .read) (a .held) e),
+    λ m e. let x = looked-refused s t c m g e in x .2 ∙ ap (λ p. refusedAt p m) (looked-one s t k (x .0) h (x .1)),
+  ),
+)
+  where
+    there-is : (s : List ℕ) (t : ℤ) (o : Outcome Asked) → question twelve s t 1 ≡ o → (k : ℕ) × Looked s t k × ((l : ℕ) → Looked s t l → l ≡ k)
+    there-is s t (accepted a) e = let x = looked-answered s t 1 (a .read) (a .held) e in (a .read, x, λ l b. looked-one s t (a .read) l x b)
+    there-is s t (refused m) e = let x = looked-refused s t 1 m (omega arith, omega arith) e in (x .0, x .1, λ l b. looked-one s t (x .0) l (x .1) b)
+
 -- ---- over the promises of our own code
 
 pub own-question : OwnQuestion
@@ -237,7 +287,7 @@ own-question = (own-none, own-record, own-refused)
       λ p. record { answer = sym (p .1); count = p .0 ∙ sym (ap recordsRead (p .1)) },
     )
 
-numbers-same : (h : Held) → numbersHeld h ≡ fiveNumbersHeld h
+numbers-same : (h : Held) → heldOrZeros h ≡ fiveNumbersHeld h
 unfolding heldNumbers
 numbers-same noneYet = refl
 numbers-same (holds r) = refl

@@ -8,10 +8,12 @@
 --   theRecord s i           record i, as an answer has it
 --   NotLater s t i          record i is not later than t
 --   HoldsAt s t c i         it is not, and it is of the channel c
+--   LastOf s n t c i        record i is the last of the first n records that so holds; `NoneOf s n t c`: none of them does
 --   WhatHolds s n t c h     h is what holds, of the first n records: the last that does, or none yet
 --   FirstNot P n k          k is the place, from one, of the first of n records for which P fails; or n, where there is none
 --   Passed s t i            record i is good, and not later than t
---   Looked s t k            k records are looked at: those up to the first that is later or bad, or all; none where the header is bad
+--   Looked s t k            k records are looked at: those up to the first that is later or bad, and that one; or all; none where the header is bad
+--   ReadUpTo s t c k        with a good channel and header, k records are read, all good, up to the first later one
 --   SameOctets s u a n      s and u have the same n octets from place a on
 --   AsksFile s i c r        what `holds` promises (`schedule/specs/Calls.antt`): r is its answer, with `H.NoneYet`, `H.Record r` or `H.Refused f`
 --   HoldsForC               what the C function promises (`boundary/specs/Files.antt`)
@@ -119,11 +121,20 @@ Passed s t i = Good s i × NotLater s t i
 abbrev pub Looked : List ℕ → ℤ → ℕ → Type 0
 Looked s t k = ((Header s → ⊥) × (k ≡ 0)) ⊎ (Header s × FirstNot (Passed s t) (unsignedAt s 0 4) k)
 
+-- There is one such number, and no other. It is the number that an answer has; and a question that is refused is refused at the last of these records, or at the
+-- header, where full reading is refused too, and with the same number.
+abbrev pub LookedAt : Type 0
+LookedAt =
+    ((s : List ℕ) (t : ℤ) → (k : ℕ) × Looked s t k × ((l : ℕ) → Looked s t l → l ≡ k))
+    × ((s : List ℕ) (t : ℤ) (c k : ℕ) → Channel c → Looked s t k
+    → ((a : Asked) → question twelve s t c ≡ accepted a → a .read ≡ k)
+    × ((m : ℕ) → question twelve s t c ≡ refused m → fullReading twelve s ≡ refusedAt k m))
+
 abbrev pub SameOctets : List ℕ → List ℕ → ℕ → ℕ → Type 0
 SameOctets s u a n = (p : ℕ) → a ≤ p → p < a + n → getD s p 0 ≡ getD u p 0
 
--- "For others the answer is fixed by the header and the records read": by the file's length, the header, the records looked at, and their stamps. What stands behind
--- the first later record, or the first bad one, is of no account.
+-- "For others the answer is fixed by the header and the records read": by the file's length, which the header is tested with, the header, the records looked at, and
+-- their stamps. What stands behind the first later record, or the first bad one, is of no account.
 abbrev pub FixedByRead : Type 0
 FixedByRead =
     (s u : List ℕ) (t : ℤ) (c k : ℕ) → Looked s t k → length s ≡ length u → SameOctets s u 0 16
@@ -145,10 +156,10 @@ AtTheGreatest =
 -- The number read never falls between two instants at which the question is not refused; of what channel does not matter.
 abbrev pub CountNeverFalls : Type 0
 CountNeverFalls =
-    (s : List ℕ) (t u : ℤ) (c d : ℕ) (a b : Asked) → leZ t u ≡ true → question twelve s t c ≡ accepted a → question twelve s u d ≡ accepted b → a .read ≤ b .read
+    (s : List ℕ) (t t′ : ℤ) (c c′ : ℕ) (a b : Asked) → leZ t t′ ≡ true → question twelve s t c ≡ accepted a → question twelve s t′ c′ ≡ accepted b → a .read ≤ b .read
 
--- Each refusal is met, where the record is read and nowhere else; none yet with no record read, one, some and all; of two at one instant the last. The table is
--- `card/specs/BenchOfQuestions.antt`.
+-- Each refusal is met where its record is read, and 14, 8 and 15 are not met where theirs is not; none yet with no record read, one, some and all; of two at one
+-- instant the last. The table is `card/specs/BenchOfQuestions.antt`.
 abbrev pub QuestionsMet : Type 0
 QuestionsMet = Holding × LastOfTwo × NoneYet × OfChannels × OfRecordsRead
 
