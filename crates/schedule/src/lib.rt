@@ -9,9 +9,8 @@ mod header;
 mod stamps;
 mod walk;
 
-use crate::walk::Shown;
+use crate::header::Header;
 use crate::walk::Walk;
-use crate::walk::Wanted;
 use instants::Instant;
 
 // In the numbers of documents 01 and 02.
@@ -94,11 +93,10 @@ impl Refusal {
 pub fn read(file: &[u8]) -> FullReading
     ensures { λ r. ⌜ ReadsFile (now (file .entry)) r ⌝ }
 {
-    let wanted = Wanted {
-        channel: 0,
-        place: 0,
+    let Header::Good(regions) = header::read(file) else {
+        return FullReading::Refused(Refusal::Header, 0);
     };
-    match walk::up_to(file, i64::MAX, wanted) {
+    match walk::up_to(file, regions, i64::MAX) {
         Walk::Ended(ended) => FullReading::Records(ended.read),
         Walk::Refused(refusal, place) => FullReading::Refused(refusal, place),
     }
@@ -108,11 +106,19 @@ pub fn read(file: &[u8]) -> FullReading
 pub fn record_at(file: &[u8], place: u32) -> Found
     ensures { λ r. ⌜ FindsRecord (now (file .entry)) place r ⌝ }
 {
-    match walk::up_to(file, i64::MAX, Wanted { channel: 0, place }) {
-        Walk::Ended(ended) => match ended.shown(file) {
-            Shown::None => Found::Refused(Refusal::Base(values::Refusal::Value)),
-            Shown::Record(kept) => Found::Record(kept),
-        },
+    let Header::Good(regions) = header::read(file) else {
+        return Found::Refused(Refusal::Header);
+    };
+    match walk::up_to(file, regions, i64::MAX) {
+        Walk::Ended(ended) => {
+            if place < 1 {
+                return Found::Refused(Refusal::Base(values::Refusal::Value));
+            }
+            if ended.passed < place {
+                return Found::Refused(Refusal::Base(values::Refusal::Value));
+            }
+            Found::Record(ended.shown(file, regions, place))
+        }
         Walk::Refused(refusal, _) => Found::Refused(refusal),
     }
 }
@@ -133,17 +139,24 @@ pub fn holds(file: &[u8], instant: Instant, channel: u32) -> Asked
     if !fields::is_channel(channel) {
         return refused(Refusal::Base(values::Refusal::Value));
     }
-    match walk::up_to(file, instant.micros, Wanted { channel, place: 0 }) {
-        Walk::Ended(ended) => match ended.shown(file) {
-            Shown::None => Asked {
-                read: ended.read,
-                held: Held::NoneYet,
-            },
-            Shown::Record(kept) => Asked {
+    let Header::Good(regions) = header::read(file) else {
+        return refused(Refusal::Header);
+    };
+    match walk::up_to(file, regions, instant.micros) {
+        Walk::Ended(ended) => {
+            let place = ended.last_of(file, channel);
+            if place == 0 {
+                return Asked {
+                    read: ended.read,
+                    held: Held::NoneYet,
+                };
+            }
+            let kept = ended.shown(file, regions, place);
+            Asked {
                 read: ended.read,
                 held: Held::Record(kept),
-            },
-        },
+            }
+        }
         Walk::Refused(refusal, _) => refused(refusal),
     }
 }

@@ -1,17 +1,17 @@
 // From record to record, from the front. Whoever reads a file takes the same step.
 ghost use mathlib.Core.Path.{_≡_};
-ghost use Prim.Native.Nat.{_≤_, _<_};
-ghost use lib.Dec.{eqb};
-ghost use Rattle.format.specs.Words.{pick, either};
+ghost use Prim.Native.Nat.{_-_, _≤_, _<_};
+ghost use lib.ListN.{length};
 ghost use Rattle.card.specs.Header.{twelve};
+ghost use Rattle.card.specs.Records.{recordStart, startAt, instantAt, recordAt, inFile};
 ghost use Rattle.card.specs.Step.{step};
-ghost use Rattle.schedule.specs.Steps.{Says, beforeFrom, stepped, shown, Walks, Ends, ShowsKept};
+ghost use Rattle.schedule.specs.Meaning.{recordFrom};
+ghost use Rattle.schedule.specs.Steps.{Says, beforeFrom, stepped, shown, GoodAlone, EndsBy, Runs, Walks, lastPlace};
 use crate::Record;
 use crate::Refusal;
 use crate::fields;
 use crate::fields::Fields;
 use crate::header;
-use crate::header::Header;
 use crate::header::Regions;
 use crate::stamps;
 use crate::stamps::Timed;
@@ -34,35 +34,19 @@ pub(crate) enum Stepped {
     Refused(Refusal),
 }
 
-// Which record a walk keeps: the last of this channel, or the one at this place, from one. No record has the channel 0 or the place 0.
-pub(crate) struct Wanted {
-    pub channel: u32,
-    pub place: u32,
-}
-
-// The record that was kept, by its place and its instant: its fields stand in the file. The place 0 is none.
-pub(crate) struct Kept {
-    pub place: u32,
+// Where a run of records ended: how many records of the file were read by then, how many of them were passed, which is all but one that is later, and the
+// instants of the last one passed and of the last one read.
+pub(crate) struct Ended {
+    pub read: u32,
+    pub passed: u32,
+    pub last: i64,
     pub instant: i64,
 }
 
-// How many records were read, of how many in the file, and what was kept.
-pub(crate) struct Ended {
-    pub read: u32,
-    pub records: u32,
-    pub kept: Kept,
-}
-
-// A refusal, and the place of the record, from one; 0 is the header.
+// A refusal, and the place of the record, from one.
 pub(crate) enum Walk {
     Ended(Ended),
     Refused(Refusal, u32),
-}
-
-// What a walk shows of the file.
-pub(crate) enum Shown {
-    None,
-    Record(Record),
 }
 
 // What comes of record i, from 0 on.
@@ -90,73 +74,56 @@ pub(crate) fn step(file: &[u8], regions: Regions, i: u32, before: Before) -> Ste
     }
 }
 
-impl Wanted {
-    fn has(self, channel: u32, place: u32) -> bool
-        ensures { λ r. ⌜ r ≡ either (eqb channel (self .channel)) (eqb place (self .place)) ⌝ }
-    {
-        if channel == self.channel {
-            return true;
-        }
-        place == self.place
-    }
-}
-
-impl Kept {
-    fn or(self, wanted: bool, place: u32, instant: i64) -> Kept
-        ensures { λ r. ⌜ r ≡ pick wanted (record { place = place; instant = instant }) self ⌝ }
-    {
-        if wanted {
-            Kept { place, instant }
-        } else {
-            self
-        }
-    }
-}
-
-// The records from the front, up to the first that is later than `until`, which is read too. No instant is below the least number, which so stands for none
-// before the first record, and none is above the greatest: up to that the whole file is read.
-pub(crate) fn up_to(file: &[u8], until: i64, wanted: Wanted) -> Walk
-    ensures { λ r. ⌜ Walks (now (file .entry)) until wanted r ⌝ }
+// The records from record `from` on, up to the first that is later than `until`, which is read too. The only loop that reads stamps: it carries as little as
+// can be, so that the constants of the readers have room in the registers.
+fn run(file: &[u8], regions: Regions, from: u32, front: Before, until: i64) -> Walk
+    requires { ⌜ Says (now file) regions × (from ≤ regions .records) ⌝ }
+    ensures { λ r. ⌜ Runs (now (file .entry)) until from (beforeFrom front) r ⌝ }
 {
-    let Header::Good(regions) = header::read(file) else {
-        return Walk::Refused(Refusal::Header, 0);
-    };
     let records = regions.records;
-    let mut before = Before {
-        ended: 0,
-        last: i64::MIN,
-    };
-    let mut kept = Kept {
-        place: 0,
-        instant: 0,
-    };
-    let mut i = 0;
+    let mut before = front;
+    let mut i = from;
     while i < records {
         match step(file, regions, i, before) {
             Stepped::Taken(taken) => {
-                i += 1;
+                let read = i + 1;
                 if until < taken.instant {
                     return Walk::Ended(Ended {
-                        read: i,
-                        records,
-                        kept,
+                        read,
+                        passed: i,
+                        last: before.last,
+                        instant: taken.instant,
                     });
                 }
                 let fields = taken.fields;
-                kept = kept.or(wanted.has(fields.channel, i), i, taken.instant);
                 before = Before {
                     ended: fields.end(),
                     last: taken.instant,
                 };
+                i = read;
             }
             Stepped::Refused(refusal) => return Walk::Refused(refusal, i + 1),
         }
     }
     Walk::Ended(Ended {
         read: i,
-        records,
-        kept,
+        passed: i,
+        last: before.last,
+        instant: before.last,
     })
+}
+
+// From the first record on. No instant is below the least number, which so stands for none before the first record, and none is above the greatest: up to
+// that the whole file is read.
+pub(crate) fn up_to(file: &[u8], regions: Regions, until: i64) -> Walk
+    requires { ⌜ Says (now file) regions ⌝ }
+    ensures { λ r. ⌜ Walks (now (file .entry)) until r ⌝ }
+{
+    let front = Before {
+        ended: 0,
+        last: i64::MIN,
+    };
+    run(file, regions, 0, front, until)
 }
 
 impl Taken {
@@ -177,21 +144,57 @@ impl Taken {
     }
 }
 
+// The instant of record i, which a walk passed: the stamp is read once more, by a run that ends at this record, as every instant is later than the least number.
+fn instant_of(file: &[u8], regions: Regions, i: u32, start: usize) -> i64
+    requires { ⌜ Says (now file) regions × (i < regions .records) × (start ≡ startAt twelve (now file) i) × GoodAlone (now file) i ⌝ }
+    ensures { λ r. ⌜ r ≡ instantAt twelve (now (file .entry)) i ⌝ }
+{
+    let alone = Before {
+        ended: start,
+        last: i64::MIN,
+    };
+    match run(file, regions, i, alone, i64::MIN) {
+        Walk::Ended(ended) => ended.instant,
+        Walk::Refused(_, _) => 0, // never: the record is good
+    }
+}
+
 impl Ended {
-    // The record that was kept, if any.
-    pub(crate) fn shown(self, file: &[u8]) -> Shown
-        requires { ⌜ Ends (now file) self ⌝ }
-        ensures { λ r. ⌜ ShowsKept (now (file .entry)) self r ⌝ }
+    // The place of the last record of a channel among those passed, from one; 0 if there is none.
+    pub(crate) fn last_of(self, file: &[u8], channel: u32) -> u32
+        requires { ⌜ (self .passed ≤ 1000) × (recordStart twelve (self .passed) ≤ length (now file)) ⌝ }
+        ensures { λ r. ⌜ r ≡ lastPlace (now (file .entry)) channel (self .passed) ⌝ }
     {
-        let kept = self.kept;
-        let place = kept.place;
-        if place == 0 {
-            return Shown::None;
+        let mut place = self.passed;
+        while 0 < place {
+            let fields = fields::fields_at(file, (place - 1) as usize);
+            if fields.channel == channel {
+                return place;
+            }
+            place -= 1;
+        }
+        0
+    }
+
+    // The record at a place among those passed, from one.
+    pub(crate) fn shown(self, file: &[u8], regions: Regions, place: u32) -> Record
+        requires { ⌜ Says (now file) regions × EndsBy (now file) self × (0 < place) × (place ≤ self .passed) ⌝ }
+        ensures { λ r. ⌜ recordFrom r ≡ inFile twelve (now (file .entry)) (recordAt twelve (now (file .entry)) (place - 1)) ⌝ }
+    {
+        let i = place - 1;
+        let fields = fields::fields_at(file, i as usize);
+        let records = regions.records;
+        if place == self.passed {
+            let taken = Taken {
+                fields,
+                instant: self.last,
+            };
+            return taken.in_file(place, records);
         }
         let taken = Taken {
-            fields: fields::fields_at(file, (place - 1) as usize),
-            instant: kept.instant,
+            fields,
+            instant: instant_of(file, regions, i, fields.start),
         };
-        Shown::Record(taken.in_file(place, self.records))
+        taken.in_file(place, records)
     }
 }
