@@ -10,7 +10,7 @@
 --   Record, recordAt    all that is asked of a record: its place from one, where its stamp starts within the stamp octets and how long it is, channel,
 --                       correction, instant
 --   inFile f s r        r with its stamp's start within the file
---   recordsOf f s       the records of a file, in their order
+--   recordsFrom f s i n the n records from i on, in their order
 use Prim.Native.Nat.{ℕ, zero, suc, _+_, _*_}
 use mathlib.Core.List.{List, [], _∷_}
 use lib.IntN.{ℤ, pos}
@@ -20,7 +20,7 @@ use Rattle.format.specs.Octets.{unsignedAt, signedOf}
 use Rattle.format.specs.Values.{DatetimeTz, Answer}
 use Rattle.format.specs.Reading.{read}
 use Rattle.moments.specs.Instant.{instantOf}
-use Rattle.card.specs.Header.{RecordForm, recordSize, headerSize, countOf, stampsStart}
+use Rattle.card.specs.Header.{RecordForm, recordSize, headerSize, stampsStart}
 
 abbrev pub recordStart : RecordForm → ℕ → ℕ
 recordStart f i = headerSize + recordSize f * i
@@ -87,6 +87,3 @@ inFile f s r =
 unfoldable pub recordsFrom : RecordForm → List ℕ → ℕ → ℕ → List Record
 recordsFrom f s i zero = []
 recordsFrom f s i (suc n) = recordAt f s i ∷ recordsFrom f s (suc i) n
-
-abbrev pub recordsOf : RecordForm → List ℕ → List Record
-recordsOf f s = recordsFrom f s 0 (countOf s)
