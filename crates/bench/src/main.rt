@@ -1,5 +1,7 @@
 // The example program of document 01: writes its fifteen stamps, A to O, and prints a line for each.
 // A line has the letter, the refusal number (0 for none), and the octets in hex, or `-` after a refusal.
+#![tactic(auto)]
+
 use calendar::Date;
 use values::{DateTz, Datetime, DatetimeTz, Offset, Settings, Time, TimeTz, Written};
 

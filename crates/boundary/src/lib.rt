@@ -1,4 +1,6 @@
 // The C boundary: numbers, and octets as a pointer and a length. No allocation, no state.
+#![tactic(auto)]
+
 ghost use Rattle.std.specs.Prelude.{◌≡◌};
 ghost use Rattle.format.specs.Writing.{encode};
 ghost use Rattle.values.specs.Meaning.{kind_from, settings_from};
@@ -15,7 +17,7 @@ use values::{
 };
 
 // The kind that a number names.
-#[derive(Drop)]
+#[derive(Clone, Copy)]
 enum Known {
     Kind(Kind),
     None,

@@ -1,5 +1,7 @@
 // The proleptic Gregorian calendar of the years 1 to 9999: a date's day number, and the date of a day number.
 // There is no loop and no table: sums and quotients only.
+#![tactic(auto)]
+
 ghost use Rattle.std.specs.Prelude.{◌≡◌, true, ◌+◌, ◌-◌, ◌<◌, ◌≤◌};
 ghost use Rattle.format.specs.Calendar.{last_number, leap, year_length, is_day, day_number, day_of};
 ghost use Rattle.calendar.specs.Meaning.{day_from};
@@ -12,7 +14,7 @@ mod years;
 use crate::years::Elapsed;
 
 // Any three numbers: whoever writes a date refuses the wrong ones.
-#[derive(Drop)]
+#[derive(Clone, Copy)]
 pub struct Date {
     pub year: u32,
     pub month: u32,
@@ -20,14 +22,14 @@ pub struct Date {
 }
 
 // A date's day number: 0 at 0001-01-01.
-#[derive(Drop)]
+#[derive(Clone, Copy)]
 pub enum Numbered {
     Day(u32),
     NoSuchDay,
 }
 
 // The date of a day number.
-#[derive(Drop)]
+#[derive(Clone, Copy)]
 pub enum Dated {
     Date(Date),
     NoSuchNumber,

@@ -9,7 +9,7 @@ ghost use Rattle.calendar.specs.Steps.{to_january, march_year, day_count};
 pub(crate) const TO_JANUARY: u32 = 306;
 
 // What lies before a day: whole years from March, and days of its own.
-#[derive(Drop)]
+#[derive(Clone, Copy)]
 pub(crate) struct Elapsed {
     pub(crate) years: u32,
     pub(crate) days: u32,

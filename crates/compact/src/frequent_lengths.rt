@@ -10,7 +10,7 @@ use crate::reading::Taken;
 use crate::{lengths, reading};
 use values::Kind;
 
-#[derive(Drop)]
+#[derive(Clone, Copy)]
 pub enum Seen {
     Taken(Taken),
     Rare,

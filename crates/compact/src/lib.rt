@@ -1,5 +1,7 @@
 // The compact form of every kind: two octets of offset where it is carried, then one number as a BER integer.
 // The number is signed: negative before 2020-01-01. A reader and a writer for each kind: each takes any octets, value and buffer, and answers.
+#![tactic(auto)]
+
 mod frequent_lengths;
 mod lengths;
 mod limits;

@@ -8,7 +8,7 @@ ghost use Rattle.compact.specs.Meaning.{image_octets};
 use crate::limits;
 
 // An image in the making: the offset's two octets in front or none, then the number.
-#[derive(Drop)]
+#[derive(Clone, Copy)]
 pub struct Image {
     pub front: bool,
     pub minutes: i32,
@@ -16,7 +16,7 @@ pub struct Image {
     pub number: i64,
 }
 
-#[derive(Drop)]
+#[derive(Clone, Copy)]
 pub enum Imaged {
     Image(Image),
     NoForm,

@@ -16,7 +16,7 @@ use values::{Kind, Offset, Time, Value};
 // ---- what stands there
 
 // What stands there, reported as data: `usual` is false for a redundant sign octet or an offset of zero where none should stand.
-#[derive(Drop)]
+#[derive(Clone, Copy)]
 pub struct Taken {
     pub front: bool,
     pub minutes: i32,

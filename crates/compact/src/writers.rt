@@ -13,7 +13,7 @@ use calendar::Numbered;
 use values::{Kind, Refusal, Value, Written};
 
 // The day number of a value in range, 0 where the kind has no date: one look at the calendar for both.
-#[derive(Drop)]
+#[derive(Clone, Copy)]
 enum Ranged {
     Day(u32),
     Out,

@@ -1,5 +1,7 @@
 // Answers a file of cases, for a comparison with another program: a case on each line of standard input, its answer on a line of
 // standard output. `parse` says how a case is written, `answers`, `utc` and `schedules` how its answer is.
+#![tactic(auto)]
+
 use libc::STDIN_FILENO;
 
 mod answers;

@@ -19,46 +19,46 @@ use crate::fields::{Minutes, Number, Signed, Word};
 use calendar::Date;
 use values::{DatetimeTz, Offset, Settings, Time};
 
-#[derive(Drop)]
+#[derive(Clone, Copy)]
 enum Day {
     Read(Date, usize),
     Wrong,
 }
 
-#[derive(Drop)]
+#[derive(Clone, Copy)]
 pub enum Stamp {
     Read(DatetimeTz, usize),
     Wrong,
 }
 
-#[derive(Drop)]
+#[derive(Clone, Copy)]
 enum Set {
     Read(Settings, usize),
     Wrong,
 }
 
-#[derive(Drop)]
+#[derive(Clone, Copy)]
 enum Octet {
     Read(u8),
     Wrong,
 }
 
 // How many octets were read: the last field needs no place after it.
-#[derive(Drop)]
+#[derive(Clone, Copy)]
 pub enum Octets {
     Read(usize),
     Wrong,
 }
 
 // Two numbers, and nothing behind them.
-#[derive(Drop)]
+#[derive(Clone, Copy)]
 pub enum Pair {
     Read(i64, i64),
     Wrong,
 }
 
 // The value has the parts of every kind.
-#[derive(Drop)]
+#[derive(Clone, Copy)]
 pub struct Asked {
     pub kind: u64,
     pub value: DatetimeTz,
@@ -66,7 +66,7 @@ pub struct Asked {
     pub room: u64,
 }
 
-#[derive(Drop)]
+#[derive(Clone, Copy)]
 pub enum Writing {
     Asked(Asked),
     Wrong,

@@ -1,5 +1,7 @@
 // The extended form of the kinds with a time: two header octets, the day number in 3 where there is a date, the microseconds in 5.
 // For the crates of this library: callers prove what is required.
+#![tactic(auto)]
+
 mod head;
 mod readers;
 mod writers;

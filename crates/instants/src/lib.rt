@@ -1,4 +1,6 @@
 // Instants: a DatetimeTz as one number, so that stamps of different sites can be compared, moved in time and restated at another offset.
+#![tactic(auto)]
+
 ghost use Rattle.std.specs.Prelude.{◌≡◌, ◌≤◌, true, pos, ◌+ℤ◌, nat_lt};
 ghost use Rattle.format.specs.Words.{accepted, pick, unless};
 ghost use Rattle.format.specs.Calendar.{last_number};
@@ -16,13 +18,13 @@ use calendar::{Dated, Numbered};
 use values::{DatetimeTz, Offset, Time};
 
 // Microseconds from 0001-01-01T00:00 UTC. Any number: a call refuses one that no stamp has.
-#[derive(Drop)]
+#[derive(Clone, Copy)]
 pub struct Instant {
     pub micros: i64,
 }
 
 // In the numbers of documents 01 and 02: 2 and 9.
-#[derive(Drop)]
+#[derive(Clone, Copy)]
 pub enum Refusal {
     // A stamp, an offset or an instant that was handed in is out of range.
     Value,
@@ -31,21 +33,21 @@ pub enum Refusal {
 }
 
 // What a stamp's instant and a sum answer.
-#[derive(Drop)]
+#[derive(Clone, Copy)]
 pub enum Found {
     Instant(Instant),
     Refused(Refusal),
 }
 
 // How far two instants are apart.
-#[derive(Drop)]
+#[derive(Clone, Copy)]
 pub enum Apart {
     Micros(i64),
     Refused(Refusal),
 }
 
 // A stamp stated at an offset.
-#[derive(Drop)]
+#[derive(Clone, Copy)]
 pub enum Stated {
     Stamp(DatetimeTz),
     Refused(Refusal),

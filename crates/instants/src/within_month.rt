@@ -11,7 +11,7 @@ use crate::ahead_of_utc;
 use calendar::Date;
 use values::{DatetimeTz, Offset, Time};
 
-#[derive(Drop)]
+#[derive(Clone, Copy)]
 pub enum Near {
     // Restated, in the month that it was in.
     Stamp(DatetimeTz),

@@ -1,4 +1,6 @@
 // The calendar's calls for C, so that they can be measured beside a plain C version. For `make measure` only: never installed.
+#![tactic(auto)]
+
 ghost use Rattle.std.specs.Prelude.{◌≡◌, true};
 ghost use Rattle.format.specs.Calendar.{is_day};
 ghost use Rattle.calendar.specs.Meaning.{day_from};

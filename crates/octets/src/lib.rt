@@ -1,6 +1,8 @@
 // Numbers in octets, big-endian: unsigned and two's complement, put into a lent buffer and taken from a slice; the fewest octets of a BER integer.
 // And words of octets, least significant first.
 // For the crates of this library: callers prove what is required.
+#![tactic(auto)]
+
 mod fixed;
 mod low;
 mod words;

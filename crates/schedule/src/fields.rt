@@ -8,7 +8,7 @@ ghost use Rattle.schedule.specs.Steps.{fields_in, right};
 use crate::Record;
 use crate::header::{RECORD, RECORDS};
 
-#[derive(Drop)]
+#[derive(Clone, Copy)]
 pub(crate) struct Fields {
     // Of its stamp, within the stamp octets.
     pub start: usize,

@@ -4,14 +4,14 @@ ghost use Rattle.schedule.specs.Steps.{HeaderRead};
 use crate::FullReading;
 
 // What a right header says: the number of records, where the stamp octets start in the file, and how many there are.
-#[derive(Drop)]
+#[derive(Clone, Copy)]
 pub(crate) struct Regions {
     pub records: u32,
     pub stamps: usize,
     pub octets: usize,
 }
 
-#[derive(Drop)]
+#[derive(Clone, Copy)]
 pub(crate) enum Header {
     Good(Regions),
     Bad,

@@ -1,5 +1,7 @@
 // The schedule file that operators carry on a memory card: full reading, the record at a place, which correction holds at an instant, and manual over plan. Each
 // call takes files of any content and length.
+#![tactic(auto)]
+
 ghost use Rattle.std.specs.Prelude.{◌≡◌};
 ghost use Rattle.schedule.specs.Steps.{refused_ask};
 ghost use Rattle.schedule.specs.Calls.{RefusalNumber, ReadsFile, FindsRecord, AsksFile};
@@ -16,7 +18,7 @@ use instants::Instant;
 pub use parts::{Part, Source, over, part_over};
 
 // In the numbers of documents 01 and 02.
-#[derive(Drop)]
+#[derive(Clone, Copy)]
 pub enum Refusal {
     // One of document 01's: 5 to 8 for a record's stamp, 2 for a place at which the file has no record, and for a channel that is not 1 to 16.
     Base(values::Refusal),
@@ -29,14 +31,14 @@ pub enum Refusal {
 }
 
 // What full reading answers: the number of records, or why the file is refused and the place of the record at which it is, from one; 0 is the header.
-#[derive(Drop)]
+#[derive(Clone, Copy)]
 pub enum FullReading {
     Records(u32),
     Refused(Refusal, u32),
 }
 
 // A correction of one channel, from an instant on.
-#[derive(Drop)]
+#[derive(Clone, Copy)]
 pub struct Record {
     // From one.
     pub place: u32,
@@ -51,14 +53,14 @@ pub struct Record {
 }
 
 // What is found at a place.
-#[derive(Drop)]
+#[derive(Clone, Copy)]
 pub enum Found {
     Record(Record),
     Refused(Refusal),
 }
 
 // What holds on a channel at an instant: the last record of the channel at or before it, or none yet.
-#[derive(Drop)]
+#[derive(Clone, Copy)]
 pub enum Held {
     NoneYet,
     Record(Record),
@@ -66,7 +68,7 @@ pub enum Held {
 }
 
 // With the number of records read: the place of the first record later than the instant, from one, or all; and 0 with a refusal.
-#[derive(Drop)]
+#[derive(Clone, Copy)]
 pub struct Asked {
     pub read: u32,
     pub held: Held,

@@ -13,14 +13,14 @@ use crate::{Held, Record, Refusal, fields, header, walk};
 use instants::Instant;
 
 // Which of the two files.
-#[derive(Drop)]
+#[derive(Clone, Copy)]
 pub enum Source {
     Plan,
     Manual,
 }
 
 // A part of one of the two; of no octets where nothing holds.
-#[derive(Drop)]
+#[derive(Clone, Copy)]
 pub struct Part {
     pub source: Source,
     pub start: usize,

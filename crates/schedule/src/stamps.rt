@@ -9,7 +9,7 @@ ghost use Rattle.schedule.specs.Steps.{instant_in, timed};
 
 use values::{Kind, Located, Offset, Refusal};
 
-#[derive(Drop)]
+#[derive(Clone, Copy)]
 pub(crate) enum Timed {
     At(i64),
     Refused(Refusal),

@@ -13,20 +13,20 @@ use crate::{Record, Refusal, fields, header, stamps};
 use instants::Instant;
 
 // What came before a record: where the last stamp ended, within the stamp octets, and the last instant.
-#[derive(Drop)]
+#[derive(Clone, Copy)]
 pub(crate) struct Before {
     pub ended: usize,
     pub last: i64,
 }
 
 // A record that was read.
-#[derive(Drop)]
+#[derive(Clone, Copy)]
 pub(crate) struct Taken {
     pub fields: Fields,
     pub instant: i64,
 }
 
-#[derive(Drop)]
+#[derive(Clone, Copy)]
 pub(crate) enum Stepped {
     Taken(Taken),
     Refused(Refusal),
@@ -34,7 +34,7 @@ pub(crate) enum Stepped {
 
 // Where a run of records ended: how many records of the file were read by then, how many of them were passed, which is all but one that is later, and the
 // instants of the last one passed and of the last one read.
-#[derive(Drop)]
+#[derive(Clone, Copy)]
 pub(crate) struct Ended {
     pub read: u32,
     pub passed: u32,
@@ -43,7 +43,7 @@ pub(crate) struct Ended {
 }
 
 // A refusal, and the place of the record, from one.
-#[derive(Drop)]
+#[derive(Clone, Copy)]
 pub(crate) enum Walk {
     Ended(Ended),
     Refused(Refusal, u32),

@@ -1,5 +1,7 @@
 // How the programs print: text as it is, numbers in decimal, octets in uppercase hex.
 // The functions here write to standard output at once; those of `line` put the same into an array that is written later.
+#![tactic(auto)]
+
 use libc::STDOUT_FILENO;
 
 pub mod line;

@@ -1,5 +1,7 @@
 // Stamps written and read: a writer and a reader for each of the six kinds, three readers that find out the kind, and the three choices of a kind.
 // Each takes any value, settings, buffer and octets, and answers.
+#![tactic(auto)]
+
 mod either;
 mod readers;
 mod reading;

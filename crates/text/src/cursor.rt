@@ -11,40 +11,40 @@ use crate::parts::Zone;
 use crate::{fraction, lengths, pairs, parts, writing};
 use calendar::Date;
 
-#[derive(Drop)]
+#[derive(Clone, Copy)]
 pub struct Cursor {
     pub at: usize,
 }
 
 // Refused: an octet is wrong. It stands first, here and below: so the steps behind several others are still inlined (it seems that the compiler takes
 // the first case for the rarer one).
-#[derive(Drop)]
+#[derive(Clone, Copy)]
 pub enum Dated {
     Refused,
     Read(Date, Cursor),
 }
 
-#[derive(Drop)]
+#[derive(Clone, Copy)]
 pub enum Joined {
     Refused,
     Read(Cursor),
 }
 
 // Hour, minute and second.
-#[derive(Drop)]
+#[derive(Clone, Copy)]
 pub enum Timed {
     Refused,
     Read(u32, u32, u32, Cursor),
 }
 
 // The microseconds of a second.
-#[derive(Drop)]
+#[derive(Clone, Copy)]
 pub enum Parted {
     Refused,
     Read(u32, Cursor),
 }
 
-#[derive(Drop)]
+#[derive(Clone, Copy)]
 pub enum Zoned {
     Refused,
     Read(Zone, Cursor),

@@ -1,5 +1,7 @@
 // The text form: its fields put into a lent buffer, and read by a cursor that is handed from field to field.
 // For the crates of this library: callers prove what is required.
+#![tactic(auto)]
+
 mod cursor;
 mod fraction;
 mod lengths;

@@ -7,19 +7,19 @@ ghost use Rattle.text.specs.Pairs.{row_at, part_at, number_row, two_row, three_r
 use std::num;
 
 // Refused: an octet is wrong. So too below.
-#[derive(Drop)]
+#[derive(Clone, Copy)]
 pub enum Number {
     Read(u32),
     Refused,
 }
 
-#[derive(Drop)]
+#[derive(Clone, Copy)]
 pub enum TwoPairs {
     Read(u32, u32),
     Refused,
 }
 
-#[derive(Drop)]
+#[derive(Clone, Copy)]
 pub enum ThreePairs {
     Read(u32, u32, u32),
     Refused,

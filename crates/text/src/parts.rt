@@ -17,14 +17,14 @@ pub const MINUS: u8 = b'-';
 const LAST_SIXTIETH: u32 = 59;
 
 // `time` is all of it: hour, minute, second and fraction.
-#[derive(Drop)]
+#[derive(Clone, Copy)]
 pub struct Clock {
     pub minute: u32,
     pub second: u32,
     pub time: Time,
 }
 
-#[derive(Drop)]
+#[derive(Clone, Copy)]
 pub struct Zone {
     pub minus: bool,
     pub hours: u32,

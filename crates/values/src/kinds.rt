@@ -10,32 +10,32 @@ ghost use Rattle.values.specs.Calls.{KindDated, KindTimed, KindZoned, ValueRestI
 use crate::{Offset, Time};
 use calendar::Date;
 
-#[derive(Drop)]
+#[derive(Clone, Copy)]
 pub struct DateTz {
     pub date: Date,
     pub offset: Offset,
 }
 
-#[derive(Drop)]
+#[derive(Clone, Copy)]
 pub struct TimeTz {
     pub time: Time,
     pub offset: Offset,
 }
 
-#[derive(Drop)]
+#[derive(Clone, Copy)]
 pub struct Datetime {
     pub date: Date,
     pub time: Time,
 }
 
-#[derive(Drop)]
+#[derive(Clone, Copy)]
 pub struct DatetimeTz {
     pub date: Date,
     pub time: Time,
     pub offset: Offset,
 }
 
-#[derive(Drop)]
+#[derive(Clone, Copy)]
 pub enum Kind {
     Date,
     DateTz,
@@ -87,7 +87,7 @@ impl Kind {
 }
 
 // The parts of a value of any kind, as `stamp` hands them to a form's writer: those that the kind lacks are not looked at. Between our own crates.
-#[derive(Drop)]
+#[derive(Clone, Copy)]
 pub struct Value {
     pub date: Date,
     pub time: Time,

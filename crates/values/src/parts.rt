@@ -2,7 +2,7 @@
 ghost use Rattle.values.specs.Calls.{TimeNew, TimeEndOfDay, TimeIsEndOfDay, TimeInRange, OffsetNew, OffsetInRange};
 
 // Microseconds since the start of the day.
-#[derive(Drop)]
+#[derive(Clone, Copy)]
 pub struct Time {
     pub micros: u64,
 }
@@ -39,7 +39,7 @@ impl Time {
 }
 
 // Minutes ahead of UTC, negative behind it: carried beside the local date and time.
-#[derive(Drop)]
+#[derive(Clone, Copy)]
 pub struct Offset {
     pub minutes: i32,
 }

@@ -2,7 +2,7 @@
 ghost use Rattle.values.specs.Calls.{RefusalNumber};
 
 // In the order of document 01's numbers, 1 to 8. Writers answer the first four, readers the others.
-#[derive(Drop)]
+#[derive(Clone, Copy)]
 pub enum Refusal {
     // More than 6 digits.
     Digits,

@@ -4,7 +4,7 @@ ghost use Rattle.values.specs.Calls.{SettingsNew, SettingsDefault, SettingsForFo
 use crate::{Kind, Value};
 
 // A text has its number of fraction digits; 0 for kinds without a time.
-#[derive(Drop)]
+#[derive(Clone, Copy)]
 pub enum Form {
     Text(u32),
     Compact,
@@ -12,7 +12,7 @@ pub enum Form {
 }
 
 // Text or binary; the version of whoever will read; the digits of a text's fraction.
-#[derive(Drop)]
+#[derive(Clone, Copy)]
 pub struct Settings {
     pub binary: bool,
     pub version: u32,
