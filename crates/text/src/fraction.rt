@@ -8,7 +8,7 @@ ghost use Rattle.text.specs.Pairs.{part_at, number_row};
 
 use crate::pairs::Number;
 
-fn is_digit_lem(octet: u8) -> bool
+fn is_digit(octet: u8) -> bool
     ensures { result ≡ is_digit octet }
 {
     if octet < 48 {
