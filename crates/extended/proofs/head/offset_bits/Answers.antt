@@ -7,16 +7,12 @@ use borrow.Author.Rules.{rules, sfits_of}
 use Rattle.format.specs.Floor.{mod_f}
 use Rattle.octets.proofs.Integers.{unsigned}
 use Rattle.extended.proofs.Twelve.{bits_lt, low_twelve}
-use Rattle.extended.proofs.head.offset_bits.Statement.{statement}
-use Rattle.extended.proofs.head.offset_bits.Tie as tie
+use Rattle.extended.proofs.head.offset_bits.Goals as goal
 
-cast-result : tie.Need-overflow-cast-result
-cast-result c =
-    let m = c.before.args.offset.minutes in
+pub overflow_cast-result : goal.overflow_cast-result
+overflow_cast-result c =
+    let m = c.args.offset.minutes in
     unsigned w32 _ (mod_f m 4096) (low_twelve m (sfits_of (search rules))) (omega (arith, bits_lt m))
 
-returns : tie.Need-returns
-returns c = ap nat_abs (low_twelve c.before.args.offset.minutes (sfits_of (search rules)))
-
-pub offset-bits-spec : {M : Type 1} → statement M
-offset-bits-spec = tie.close (tie.spec cast-result returns)
+pub returns : goal.returns
+returns c = ap nat_abs (low_twelve c.args.offset.minutes (sfits_of (search rules)))
