@@ -17,7 +17,9 @@ with what docs/CLAIMS.md and README.md say of it:
    call of the table is there. Its contract asks nothing of the caller (it has
    no `requires`), and what it says of the answer (its `ensures`) is the promise
    that the table names, about every parameter and the answer, and nothing else.
-   Left out are the crates in the table 'Not for users'.
+   Left out are the crates in the table 'Not for users'. Calls for C are
+   exported: by a crate `NAME_c`, which says the call's own contract again, or
+   where there is none by the crate itself.
 4. Each promise is defined, and a theorem says that no two answers meet it: in
    a claim of crates/claims/specs/OneAnswer.antt or, where `claims` does not
    depend on the crate, in the crate's own proofs/OneAnswer.antt.

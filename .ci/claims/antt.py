@@ -9,20 +9,20 @@ DEFINED = re.compile(r"(?:abbrev |unfoldable )?(?:pub )?(?:record |data )?(\S+)"
 USE = re.compile(r"(?:\w+ )*use (.*)")
 # what it says of a promise P that no two answers meet it, word for word: weaker words would leave an answer open
 ONE = {
-    "OneAnswer": "(r r′ : _) → P r → P r′ → r ≡ r′",
-    "OneWriting": "(lent : List ℕ) (r r′ : Written) (left left′ : List ℕ) → P lent r left → P lent r′ left′ "
-                  "→ (r ≡ r′) × (left ≡ left′)",
-    "OnePart": "(r r′ : RefT (List ℕ)) → P r → P r′ → (now r ≡ now r′) × (ptr r ≡ ptr r′)",
-    "OneWritingForC": "(lent : List ℕ) (r r′ count count′ : ℕ) (left left′ : List ℕ) → P lent r count left "
-                      "→ P lent r′ count′ left′ → (r ≡ r′) × (count ≡ count′) × (left ≡ left′)",
-    "OneReadingForC": "(lent : List ℤ) (r r′ : ℕ) (left left′ : List ℤ) → P lent r left → P lent r′ left′ "
-                      "→ (r ≡ r′) × (left ≡ left′)",
-    "OneNumberForC": "(lent : ℤ) (r r′ : ℕ) (left left′ : ℤ) → P lent r left → P lent r′ left′ → (r ≡ r′) × (left ≡ left′)",
-    "OneCountForC": "(r r′ count count′ place place′ : ℕ) → P r count place → P r′ count′ place′ "
-                    "→ (r ≡ r′) × (count ≡ count′) × (place ≡ place′)",
-    "OneHoldingForC": "(lent : List ℤ) (r r′ count count′ : ℕ) (left left′ : List ℤ) → P lent r count left "
-                      "→ P lent r′ count′ left′ → (r ≡ r′) × (count ≡ count′) × (left ≡ left′)",
-    "OnePartForC": "(r r′ : ℕ) (left left′ : List ℕ) → P r left → P r′ left′ → (r ≡ r′) × (left ≡ left′)",
+    "OneAnswer": "(r r' : _) → P r → P r' → r ≡ r'",
+    "OneWriting": "(lent : List ℕ) (r r' : Written) (left left' : List ℕ) → P lent r left → P lent r' left' "
+                  "→ (r ≡ r') × (left ≡ left')",
+    "OnePart": "(r r' : Bor (List ℕ)) → P r → P r' → (r.now ≡ r'.now) × (r.ref_ptr ≡ r'.ref_ptr)",
+    "OneWritingForC": "(lent : List ℕ) (r r' count count' : ℕ) (left left' : List ℕ) → P lent r count left "
+                      "→ P lent r' count' left' → (r ≡ r') × (count ≡ count') × (left ≡ left')",
+    "OneReadingForC": "(lent : List ℤ) (r r' : ℕ) (left left' : List ℤ) → P lent r left → P lent r' left' "
+                      "→ (r ≡ r') × (left ≡ left')",
+    "OneNumberForC": "(lent : ℤ) (r r' : ℕ) (left left' : ℤ) → P lent r left → P lent r' left' → (r ≡ r') × (left ≡ left')",
+    "OneCountForC": "(r r' count count' place place' : ℕ) → P r count place → P r' count' place' "
+                    "→ (r ≡ r') × (count ≡ count') × (place ≡ place')",
+    "OneHoldingForC": "(lent : List ℤ) (r r' count count' : ℕ) (left left' : List ℤ) → P lent r count left "
+                      "→ P lent r' count' left' → (r ≡ r') × (count ≡ count') × (left ≡ left')",
+    "OnePartForC": "(r r' : ℕ) (left left' : List ℕ) → P r left → P r' left' → (r ≡ r') × (left ≡ left')",
 }
 # `(y m d : ℕ) → OneAnswer (DateNew y m d)`, or `OneAnswer TimeEndOfDay` of what is given nothing
 ONE_ANSWER = re.compile(r"(?:((?:\((?:[^()]|\([^()]*\))*\) )+)→ )?(?:%s) (?:\((\S+) ([^()]*)\)|([^\s()]+))" % "|".join(ONE))

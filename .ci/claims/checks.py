@@ -13,6 +13,8 @@ ONE_ANSWER = "crates/claims/specs/OneAnswer.antt"
 PROMISES = "crates/format/specs/Promises.antt"
 # what users call (docs/DECISIONS.md, B39), and the types that only our own crates hand to one another
 FOR_USERS = ("calendar", "values", "stamp", "instants", "schedule", "boundary")
+# whose calls C has: exported by NAME_c where there is such a crate, as no crate can depend on one that exports; else by the crate itself
+FOR_C = ("boundary", "measured")
 BETWEEN_US = re.compile(r"\b(?:Value|Parsed|Located)\b")
 
 
@@ -62,7 +64,7 @@ def proof_faults(repository, claim, file, proof):
     text = repository.text(proof)
     listed = antt.modules(repository.text("crates/claims/proofs/Lib.antt"))
     meant = antt.meanings(claim, antt.imports(antt.uses(text)))
-    claimed = "Rattle·claims·specs.specs.%s.%s" % (stem(file), claim)
+    claimed = "Rattle.claims.specs.%s.%s" % (stem(file), claim)
     return (
         unless(stem(proof) in listed,
                "claim %s: crates/claims/proofs/Lib.antt does not list %s, which proves it" % (claim, stem(proof)))
@@ -99,7 +101,8 @@ def is_defined(repository, name):
 def calls_promise(repository):
     text = repository.text(CLAIMS)
     calls, unread = documents.public_calls(text)
-    promised, functions = {}, {}
+    promised, functions, exports = {}, {}, {}
+    exporting = {crate + "_c": crate for crate in FOR_C if crate + "_c" in repository.crates()}
     for cell in unread:
         yield ["%s: in 'Public calls', not a promise for each call, or one for all: %s" % (CLAIMS, cell)]
     for call, crate, promise in calls:
@@ -109,7 +112,9 @@ def calls_promise(repository):
         yield unless(crate not in documents.crates_listed(text, "Not for users"), "%s: `%s` is for users" % (CLAIMS, crate))
     for crate in user_crates(repository, text):
         yield crate.faults
-        functions.update(crate.functions)
+        for path, function in crate.functions.items():
+            name, _, rest = path.partition("::")
+            (exports if name in exporting else functions)[exporting.get(name, name) + "::" + rest] = function
     for call in promised:
         yield unless(call in functions, "%s: there is no public call %s" % (CLAIMS, call))
     for call, function in functions.items():
@@ -117,10 +122,14 @@ def calls_promise(repository):
             yield [call + ": " + fault for fault in call_faults(repository, call, function, *promised[call])]
         else:
             yield ["%s: not in the table 'Public calls' of %s" % (call, CLAIMS)]
+    for call in sorted({call for call in promised if call.split("::")[0] in FOR_C} | set(exports)):
+        export = exports.get(call) if call.split("::")[0] in exporting.values() else functions.get(call)
+        yield ["%s, for C: %s" % (call, fault)
+               for fault in export_faults(repository, call, functions.get(call), export, promised.get(call))]
 
 
 def user_crates(repository, text):
-    """The library crates whose functions are for users."""
+    """The library crates whose functions are for users, and the crates that export them to C."""
     hidden = documents.crates_listed(text, "Not for users")
     names = [name for name in repository.crates() if name not in hidden]
     return [rattle.Crate(name, repository) for name in names if repository.text("crates/%s/src/lib.rt" % name)]
@@ -128,41 +137,53 @@ def user_crates(repository, text):
 
 def call_faults(repository, call, function, crate, promise):
     """What is wrong with the contract of a public call."""
-    parameters, answers, clauses = rattle.contract(function.text)
+    parameters, answer, clauses = rattle.contract(function.text)
     words = [word for word, _ in clauses]
     if words != ["ensures"]:
         return ["it has a `%s`" % word for word in words if word != "ensures"] or ["it has not one `ensures`"]
     said = rattle.said(clauses[0][1])
     if not said:
         return ["its `ensures` is not a promise about parameters and answer alone"]
-    answer, cited, given = said
+    cited, given = said
     if cited != promise:
         return ["its `ensures` cites %s, and %s names %s" % (cited, CLAIMS, promise)]
     brought, user = rattle.brought(repository.text(function.file)), call.split("::")[0]
-    defined = defined_as(repository, crate, promise, user)
+    defined = defined_as(repository, crate, promise)
     return (unless(antt.meanings(promise, brought) == [defined], "%s is not imported from the specs of `%s`" % (promise, crate))
-            + unless(not antt.meanings("now", brought), "in its file `now` is another thing")
+            + ["in its file `%s` is another thing" % word for word in rattle.WORDS if antt.meanings(word, brought)]
             + unless(user != "stamp" or not BETWEEN_US.search(function.text.split("{")[0]), "it takes or gives a `Value` or a `Parsed`")
-            + subject_faults(parameters, answer, answers, promise, given))
+            + subject_faults(parameters, answer, promise, given))
 
 
-def subject_faults(parameters, answer, answers, promise, given):
+def subject_faults(parameters, answer, promise, given):
     """A promise is about each parameter and the answer, once, and each word means what it seems to."""
-    wanted = [part for parameter in parameters for part in rattle.about(*parameter)] + [answer] * answers
-    allowed = wanted + [name + ".entry" for name, kind in parameters if kind.startswith("&mut")]
-    words = [name for name, _ in parameters] + [answer, promise, "now"]
+    wanted = [part for parameter in parameters for part in rattle.about(*parameter)] + ["result"] * bool(answer)
+    allowed = wanted + [name + ".old" for name, kind in parameters if kind.startswith("&mut")]
+    words = [name for name, _ in parameters] + [promise, *rattle.WORDS]
     return (["its promise is not about %s" % part for part in wanted if part not in given]
             + ["its promise is about %s, which it has not" % part for part in given if part not in allowed]
             + ["its promise is about %s twice" % part for part in sorted(set(given)) if given.count(part) > 1]
             + unless(len(set(words)) == len(words), "two things in its contract have one name"))
 
 
-def defined_as(repository, crate, promise, user):
-    """The whole name of a promise as the crate `user` writes it; None where the crate's specs do not define it."""
+def defined_as(repository, crate, promise):
+    """The whole name of a promise; None where the crate's specs do not define it."""
     for module in antt.modules(repository.text("crates/%s/specs/Lib.antt" % crate)):
         if promise in antt.definitions(repository.text("crates/%s/specs/%s.antt" % (crate, module)), public=True):
-            return "Rattle·%s.specs.%s.%s" % (crate + "·specs" if crate == user else crate, module, promise)
+            return "Rattle.%s.specs.%s.%s" % (crate, module, promise)
     return None
+
+
+def export_faults(repository, call, function, export, promised):
+    """What is wrong with the export of a call, which promises what the call does, word for word."""
+    if not export or not export.for_c:
+        return ["it is not exported"]
+    if not function or not promised:
+        return ["there is no public call of this name"]
+    if export is function:
+        return []
+    same = rattle.contract(export.text) == rattle.contract(function.text)
+    return call_faults(repository, call, export, *promised) or unless(same, "it has not the contract of the call itself")
 
 
 # ---- 4. promises have one answer
@@ -175,9 +196,8 @@ def promises_have_one_answer(repository):
     needed, claimed = repository.crates().get("claims", []), answers_claimed(repository)
     calls, _ = documents.public_calls(repository.text(CLAIMS))
     for crate, promise in sorted({(crate, promise) for _, crate, promise in calls}):
-        user = "claims" if crate in needed else crate
         known = claimed if crate in needed else answers_proved(repository, crate)
-        whole = defined_as(repository, crate, promise, user)
+        whole = defined_as(repository, crate, promise)
         if whole:
             yield unless(whole in known, "promise %s of %s: no theorem that no two answers meet it" % (promise, crate))
         else:

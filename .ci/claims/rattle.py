@@ -10,22 +10,28 @@ import re
 
 import antt
 
-IGNORED = re.compile(r"""b?"(?:\\.|[^"\\])*"|b?'(?:\\.|[^'\\])'|//.*|/\*(?s:.*?)\*/|^ *#!?\[.*\]\n""", re.M)
+# an apostrophe behind a letter or another one is a prime, and begins no quotation
+IGNORED = re.compile(
+    r"""(?P<quoted>b?"(?:\\.|[^"\\])*"|(?<![\w'])b?'(?:\\.|[^'\\])')|//.*|/\*(?s:.*?)\*/|^ *#!?\[.*\]\n""", re.M)
 ITEM = re.compile(
     r'(pub )?(?:pub\(\w+\) )?(extern "C" )?(fn|ghost use|use|mod|struct|enum|const|impl) (\w+(?:::\w+)*)')
 # the forms of those items that lead to functions which stand elsewhere
-LEADS_ON = re.compile(r"(?:pub(?:\(\w+\))? )?(?:use [\w:]+;|mod \w+;|impl \w+ \{)")
-CLAUSE = re.compile(r"\s*(requires|ensures|ghost)\s*\{")
-SAYS = re.compile(r"λ (\w+)\. ⌜ (\S+)( [^⌜⌝]*)? ⌝")
-# what is lent, by its value; or the reference itself, as it was lent
-LENT = re.compile(r"\(now \((\w+) \.(entry|exit)\)\)|\((\w+) \.entry\)")
+LEADS_ON = re.compile(r"(?:pub(?:\(\w+\))? )?(?:use \w+(?:::\w+)*(?:::\{ ?\w+(?:, \w+)*,? ?\})?;|mod \w+;|impl \w+ \{)")
+USED = re.compile(r"use ([\w:]+?)(?:::\{(.*)\})?;")
+# with the star of a clause that holds an assertion, and the name that each of two clauses has
+CLAUSE = re.compile(r"\s*\b((?:requires|ensures|ghost)\b\*?)[^{};]*\{")
+SAYS = re.compile(r"(\S+)((?: [\w.(){}=;]+)*)")
+# the words by which a clause names what is lent, and the answer or a reference itself
+LENT = ("now", "old", "new")
+WORDS = LENT + ("result", "entry", "exit")
+FIELD = re.compile(r"^    (?:pub(?:\(\w+\))? )?(%s):" % "|".join(LENT), re.M)
 RECORD = re.compile(r"\(?record \{ (\w+ = [\w.+]+(?:; \w+ = [\w.+]+)*) \}\)?")
 
 
 @functools.lru_cache(maxsize=None)
 def bare(text):
-    """A text without comments, attributes and what stands in quotes."""
-    return IGNORED.sub(lambda found: '"C"' if found.group() == '"C"' else "", text)
+    """A text without comments, attributes and what stands in quotes; the quotes are left."""
+    return IGNORED.sub(lambda found: "" if not found["quoted"] else '"C"' if found["quoted"] == '"C"' else '""', text)
 
 
 def pieces(text, margin):
@@ -45,6 +51,15 @@ class Item:
     def first_line(self):
         return self.text.split("\n")[0].rstrip()
 
+    def used(self):
+        """The paths that a `use` brings: its braces may stand over several lines."""
+        path, items = USED.search(" ".join(self.text.split())).groups()
+        return [path + "::" + item.strip() for item in items.split(",") if item.strip()] if items else [path]
+
+    def names(self):
+        """What it is called, by those who have its module."""
+        return [path.split("::")[-1] for path in self.used()] if self.kind == "use" and self.is_understood() else [self.name]
+
     def methods(self):
         """The functions of an `impl`."""
         inside = [Item(piece, self.file) for piece in pieces(self.text, "    ")[1:]]
@@ -53,7 +68,8 @@ class Item:
     def is_understood(self):
         """Whether all functions that stand in it, or to which it leads, are looked at."""
         leads_on = self.kind in ("mod", "impl") or (self.kind == "use" and self.public)
-        if not self.kind or (leads_on and not LEADS_ON.fullmatch(self.first_line())):
+        words = " ".join(self.text.split()) if self.kind == "use" else self.first_line()
+        if not self.kind or (leads_on and not LEADS_ON.fullmatch(words)):
             return False
         seen = len(self.methods()) if self.kind == "impl" else int(self.kind == "fn")
         return seen == len(re.findall(r"\bfn\b", self.text))
@@ -71,6 +87,9 @@ class Crate:
         self.items = [item for items in self.modules.values() for item in items]
         self.faults = ["%s: not understood: %s" % (item.file, item.first_line())
                        for item in self.items if not item.is_understood()]
+        # of a lent struct that has it, `x.now` may be the field
+        self.faults += ["%s: %s has a field `%s`, by which a clause names what is lent" % (item.file, item.name, field)
+                        for item in self.items if item.kind == "struct" for field in FIELD.findall(item.text)]
         # C can link a function for C that is not `pub`, or stands in a private module
         self.functions = {name + "::" + item.name: item for item in self.items if item.for_c}
         self.enter("", name)
@@ -82,8 +101,8 @@ class Crate:
             if item.public:
                 self.open(item, module, path)
 
-    def open(self, item, module, path):
-        """An item of a module is open under a path."""
+    def open(self, item, module, path, name=None):
+        """An item of a module is open under a path; of a `pub use`, if asked, one name alone."""
         if item.kind == "fn":
             self.functions[path + "::" + item.name] = item
         elif item.kind in ("struct", "enum"):
@@ -91,18 +110,20 @@ class Crate:
         elif item.kind == "mod":
             self.enter(module + "/" + item.name, path + "::" + item.name)
         elif item.kind == "use":
-            self.pass_on(item, module, path)
+            for used in item.used() if item.is_understood() else []:
+                if name in (None, used.split("::")[-1]):
+                    self.pass_on(item, used, module, path)
 
-    def pass_on(self, use, module, path):
+    def pass_on(self, use, used, module, path):
         """`pub use` opens an item of another module of the crate."""
-        *places, name = use.name.split("::")
+        *places, name = used.split("::")
         target = "" if places[:1] == ["crate"] else module
         target += "".join("/" + place for place in places if place not in ("crate", "self"))
-        found = [item for item in self.modules.get(target, []) if item.public and item.name.split("::")[-1] == name]
+        found = [item for item in self.modules.get(target, []) if item.public and item is not use and name in item.names()]
         if not found:
-            self.faults.append("%s: not understood: pub use %s" % (use.file, use.name))
+            self.faults.append("%s: not understood: pub use %s" % (use.file, used))
         for item in found:
-            self.open(item, target, path)
+            self.open(item, target, path, name)
 
     def add_methods(self):
         """The `pub` functions of each `pub` type: also of one without a path, since an answer may be of it."""
@@ -117,8 +138,8 @@ class Crate:
 
 
 def brought(text):
-    """What the `ghost use` lines of a file bring to its contracts."""
-    return antt.imports(re.findall(r"^ghost use ([^;]*);", bare(text), re.M))
+    """What the `ghost use` lines of a file, or of an `impl`, bring to contracts."""
+    return antt.imports(re.findall(r"^ *ghost use ([^;]*);", bare(text), re.M))
 
 
 def closing(text, start):
@@ -132,44 +153,47 @@ def closing(text, start):
 
 
 def contract(text):
-    """A function's parameters [(name, type)], whether it answers, and its clauses [(word, what it says)]."""
+    """A function's parameters [(name, type)], the type of its answer, and its clauses [(word, what it says)]."""
     start = text.index("(")
     end = closing(text, start)
     parameters = [parameter(words.strip()) for words in text[start + 1:end - 1].split(",") if words.strip()]
-    answers = text[end:].lstrip().startswith("->")
     place = end + re.search(r"\s*(?:\{|\brequires\b|\bensures\b|\bghost\b)", text[end:]).start()
+    answer = text[end:place].partition("->")[2].strip()
     clauses = []
     clause = CLAUSE.match(text, place)
     while clause:
         place = closing(text, clause.end() - 1)
         clauses.append((clause.group(1), " ".join(text[clause.end():place - 1].split())))
         clause = CLAUSE.match(text, place)
-    return parameters, answers, clauses
+    # behind them stands the body; anything else is a clause that is not known
+    clauses += [(word, "") for word in text[place:].split()[:1] if not word.startswith("{")]
+    return parameters, answer, clauses
 
 
 def parameter(words):
-    """(name, type) of `name: type`, `mut name: type`, `self` or `&mut self`."""
-    name, _, kind = words.partition(":")
-    return re.sub(r"^(?:&\s*)?(?:mut )?", "", name).strip(), kind.strip() or words
+    """(name, type) of `name: type`, `mut name: type`, `self` or `&mut self`; without lifetimes."""
+    name, _, kind = re.sub(r"(?<=&)'\w+ ", "", words).partition(":")
+    return re.sub(r"^(?:&\s*)?(?:mut )?", "", name).strip(), kind.strip() or name
 
 
 def said(statement):
-    """`λ r. ⌜ PROMISE .. ⌝` as (r, PROMISE, what it is about); None where it is anything else.
+    """`PROMISE ..` as (PROMISE, what it is about); None where it is anything else.
 
-    It is about parameters and the answer: `x`, and of what is lent `x.entry`
-    and `x.exit`. A record is about what its fields are.
+    It is about parameters and `result`: `x`, and of what is lent `x.now`, `x.old`
+    and `x.new`. The reference itself, `x.entry`, has what `x.now` is. A record is
+    about what its fields are.
     """
     found = SAYS.fullmatch(statement)
     if not found:
         return None
-    answer, promise, given = found.groups()
-    given, before = LENT.sub(lambda lent: "%s.%s" % (lent.group(1) or lent.group(3), lent.group(2) or "entry"), given or ""), None
+    promise, given = found.groups()
+    given, before = re.sub(r"(?<= )(\w+)\.entry(?= |$)", r"\1.now", given), None
     while given != before:
         before = given
         given = RECORD.sub(lambda record: "+".join(re.findall(r"= ([\w.+]+)", record.group(1))), given)
     if not re.fullmatch(r"(?: [\w.+]+)*", given):
         return None
-    return answer, promise, re.findall(r"[\w.]+", given)
+    return promise, re.findall(r"[\w.]+", given)
 
 
 def about(name, kind):
@@ -178,7 +202,7 @@ def about(name, kind):
     Two places (`usize`) are always written, so that what was lent there has no say.
     """
     if kind.startswith("&mut [") and not kind.startswith("&mut [usize;"):
-        return [name + ".entry", name + ".exit"]
+        return [name + ".old", name + ".new"]
     if kind.startswith("&mut"):
-        return [name + ".exit"]
-    return [name + ".entry"] if kind.startswith("&") else [name]
+        return [name + ".new"]
+    return [name + ".now"] if kind.startswith("&") else [name]

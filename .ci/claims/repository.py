@@ -35,10 +35,10 @@ class Repository:
         return self.texts[name]
 
     def crates(self):
-        """{crate: the crates that it depends on}, from crates.txt."""
-        lines = self.text("crates.txt").splitlines()
-        pairs = [line.split(":", 1) for line in lines if ":" in line and not line.startswith("#")]
-        return {name.strip(): needed.split() for name, needed in pairs}
+        """{crate: the crates that it depends on}, from crates.txt; behind a crate's name may stand what is made of it."""
+        lines = [line.partition("#")[0] for line in self.text("crates.txt").splitlines()]
+        pairs = [line.split(":", 1) for line in lines if ":" in line]
+        return {name.split()[0]: needed.split() for name, needed in pairs}
 
     def folders(self):
         """The folders under crates/."""

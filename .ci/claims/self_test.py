@@ -8,25 +8,26 @@ import shutil
 import tempfile
 
 from checks import look_at
-from faults import FAULTS
+from faults import FAULTS, export_faults
 from repository import READ, Repository
 
 
 def self_test(root):
     """(passed, failed, lines): the copy as it is has no fault, and each fault that is made is found."""
     repository, lines = Repository(root), []
+    faults = FAULTS + export_faults(repository)
     names = [name for pattern in READ for name in repository.names(pattern)]
     folder = tempfile.mkdtemp()
     try:
         copy(root, folder, names)
         lines += ["self-test: nothing is changed, but: " + line for line in look_at(folder)[2][:1]]
-        for what, message, changes in FAULTS:
+        for what, message, changes in faults:
             lines += tried(folder, what, message, changes)
             changed = tuple(file for file, _, _ in changes)
             copy(root, folder, [name for name in names if name.startswith(changed)])
     finally:
         shutil.rmtree(folder)
-    return 1 + len(FAULTS) - len(lines), len(lines), lines
+    return 1 + len(faults) - len(lines), len(lines), lines
 
 
 def copy(root, folder, names):
