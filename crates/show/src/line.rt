@@ -2,6 +2,8 @@
 // What has no room is left out, so that nothing is asked of a caller: it lends an array that is large enough.
 ghost use Rattle.std.specs.Prelude.{◌<◌};
 
+use itoa::Buffer;
+
 pub fn octet(out: &mut [u8], at: usize, octet: u8) -> usize {
     if out.len() <= at {
         return at;
@@ -12,18 +14,15 @@ pub fn octet(out: &mut [u8], at: usize, octet: u8) -> usize {
 
 pub fn text(out: &mut [u8], from: usize, s: &[u8]) -> usize {
     let mut at = from;
-    let mut i = 0;
-    while i < s.len() {
-        at = octet(out, at, s[i]);
-        i += 1;
+    for value in s {
+        at = octet(out, at, *value);
     }
     at
 }
 
 pub fn number(out: &mut [u8], at: usize, n: u64) -> usize {
-    let mut digits = [0u8; 20];
-    let count = io::decimal(n, &mut digits);
-    text(out, at, &digits[..count])
+    let mut digits = Buffer::new();
+    text(out, at, digits.format(n).as_bytes())
 }
 
 // The least number has no opposite, so its complement is taken first.
@@ -56,10 +55,8 @@ pub fn octets(out: &mut [u8], from: usize, s: &[u8]) -> usize {
         return octet(out, from, b'-');
     }
     let mut at = from;
-    let mut i = 0;
-    while i < s.len() {
-        at = two_digits(out, at, s[i]);
-        i += 1;
+    for value in s {
+        at = two_digits(out, at, *value);
     }
     at
 }
