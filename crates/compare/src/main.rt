@@ -2,7 +2,10 @@
 // standard output. `parse` says how a case is written, `answers`, `utc` and `schedules` how its answer is.
 #![tactic(auto)]
 
-use libc::STDIN_FILENO;
+ghost use Rattle.std.specs.Prelude.{◌≤◌, length};
+
+use std::io;
+use std::io::{BufWriter, Read, Write};
 
 mod answers;
 mod fields;
@@ -15,6 +18,21 @@ const MOST_OCTETS: usize = 4_194_304;
 
 // An answer has some 110 octets at most: the hex of 48 octets, their count and the refusal number.
 const LINE: usize = 160;
+
+// Where the line that starts at `from` ends: at its line feed, or where the cases end.
+fn line_end(cases: &[u8], from: usize) -> usize
+    requires { from ≤ length cases.now }
+    ensures { (from ≤ result) × (result ≤ length cases.now) }
+{
+    let mut at = from;
+    while at < cases.len() {
+        if cases[at] == b'\n' {
+            return at;
+        }
+        at += 1;
+    }
+    at
+}
 
 // The letter of a case says who answers it.
 fn answer(out: &mut [u8], case: &[u8]) -> usize {
@@ -37,40 +55,41 @@ fn answer(out: &mut [u8], case: &[u8]) -> usize {
     }
 }
 
-fn print_answer(case: &[u8]) {
+fn print_answer(to: &mut impl Write, case: &[u8]) -> io::Result<()> {
     let mut out = [0u8; LINE];
     let end = answer(&mut out, case);
     let next = show::line::octet(&mut out, end, b'\n');
-    show::start_of(&out, next);
+    show::start_of(to, &out, next)
 }
 
-fn print_answers(cases: &[u8]) {
+fn print_answers(to: &mut impl Write, cases: &[u8]) -> io::Result<()> {
     let mut at = 0;
     while at < cases.len() {
-        let end = fields::end_at(cases, at, b'\n');
-        print_answer(&cases[at..end]);
+        let end = line_end(cases, at);
+        print_answer(to, &cases[at..end])?;
         if end == cases.len() {
-            return;
+            return Ok(());
         }
         at = end + 1;
     }
+    Ok(())
 }
 
-fn answer_all(space: &mut [u8]) {
-    let count = io::read_full(STDIN_FILENO, space);
-    if count == space.len() {
-        show::text(b"the cases have no room\n");
-        return;
+fn answer_all(to: &mut impl Write, cases: &[u8]) -> io::Result<()> {
+    if cases.len() == MOST_OCTETS {
+        return show::text(to, b"the cases have no room\n");
     }
-    print_answers(&space[..count]);
+    print_answers(to, cases)
 }
 
-// Takes the array by its type, which says its length: in `main` a proof would have to count its zeros.
-fn answer_in(space: &mut [u8; MOST_OCTETS]) {
-    answer_all(space);
+fn answer_in(rt: &(impl Input + Print + AllocGlobal), space: &mut Vec<u8>) -> io::Result<()> {
+    rt.reader().take(MOST_OCTETS as u64).read_to_end(space)?;
+    let mut out = BufWriter::new(rt.alloc(), io::writer(rt))?;
+    answer_all(&mut out, space.as_slice())?;
+    out.flush()
 }
 
-fn main() {
-    let mut space = [0u8; MOST_OCTETS];
-    answer_in(&mut space);
+fn main(rt: HostRuntime) -> io::Result<()> {
+    let mut space = Vec::new(rt.alloc());
+    answer_in(&rt, &mut space)
 }
