@@ -89,7 +89,7 @@ module _ (n : ℕ) (s : List ℕ) (known : (i : ℕ) → Fits w8 (get_or s i 0))
       → {most : ℕ} → n ≤ most → SeesAlone most s (S.Taken t)
   unfolding signed_of padded_to
   sees_alone l some ok x-is b-is {t} (f, m, x, u) few k c q =
-      sees k false n s octets (omega arith) c some (omega arith) t f m (x ∙ to_z-of_z (record { sfits = ok }) ∙ x-is) (rw (lt-ltb 1 n some, both_last, x) (u ∙ b-is))
+      sees k false n s octets (omega arith) c some (omega arith) t f m (x ∙ to_z-of_z {w = w64} (record { sfits = ok }) ∙ x-is) (rw (lt-ltb 1 n some, both_last, x) (u ∙ b-is))
 
   -- of a kind that has an offset in front at this length
   pub sees_behind : (k : Kind) → length s ≡ 2 + n → carried_in k (2 + n) ≡ true → 2 ≤ n → 2 + n ≤ longest k
@@ -98,7 +98,7 @@ module _ (n : ℕ) (s : List ℕ) (known : (i : ℕ) → Fits w8 (get_or s i 0))
       → {t : Taken} → (t.front ≡ true) × (t.minutes ≡ signed_of (take 2 s)) × (t.number ≡ to_z w64 (of_z w64 x)) × (t.usual ≡ both b (needs (timed k) (not (eqb (nat_abs t.minutes) 0))))
       → Sees k s (S.Taken t)
   sees_behind k l c some most ok x-is b-is {t} (f, m, x, u) =
-      sees k true n s octets l (rw l c) some (omega arith) t f m (x ∙ to_z-of_z (record { sfits = ok }) ∙ x-is) (rw (x, ← b-is) u)
+      sees k true n s octets l (rw l c) some (omega arith) t f m (x ∙ to_z-of_z {w = w64} (record { sfits = ok }) ∙ x-is) (rw (x, ← b-is) u)
 
 -- ---- where no offset stands in front
 

@@ -1,0 +1,18 @@
+-- `zone` meets its contract: the sign, and the two pairs behind it. Assumes nothing.
+use Rattle.std.proofs.Common.{sym, refl, ap, ◌∙◌, rules}
+use Rattle.format.proofs.Cases.{not_true, not_false}
+use Rattle.text.specs.Pairs.{two_row}
+use Rattle.text.proofs.PartLaws.{zone_no_sign, zone_no_rest, zone_done}
+use Rattle.text.proofs.cursor.Cursor.zone.Goals as goal
+
+pub returns-then-not-is_sign : goal.returns-then-not-is_sign
+returns-then-not-is_sign c = (zone_no_sign _ _ (sym c.is_sign.ensures ∙ not_true _ c.if-not-is_sign.true-raw), tt)
+
+pub returns-in_default : goal.returns-in_default
+returns-in_default c = (zone_no_rest _ _ 6 (sym c.two_pairs.ensures ∙ ap two_row c.in_default.is), tt)
+
+pub returns : goal.returns
+returns c =
+    let told = c in
+    let signed = told in
+    (zone_done _ _ _ _ _ c.is_minus.ensures (sym signed.is_sign.ensures ∙ not_false _ signed.if-not-is_sign.false-raw) (sym told.two_pairs.ensures ∙ ap two_row told.in-Read.is), refl)

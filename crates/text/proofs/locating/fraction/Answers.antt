@@ -1,0 +1,23 @@
+-- `fraction` meets its contract: three digits as a word, others as the cursor reads them. Assumes nothing.
+use Rattle.std.proofs.Common.{◌≡◌, sym, ap, ◌∙◌, arith, rules}
+use Rattle.format.specs.Fields.{width}
+use Rattle.text.specs.Putting.{fraction_field}
+use Rattle.text.specs.Pairs.{number_row}
+use Rattle.text.proofs.PartLaws.{part_width}
+use Rattle.text.proofs.locating.fraction.Goals as goal
+use Rattle.text.proofs.locating.fraction.Goals.{Then-digits-eq3}
+
+-- three digits and their point
+wide : (c : Then-digits-eq3) → width (fraction_field c.before.before.args.digits) ≡ 4
+wide c = part_width c.before.before.args.digits (omega (arith, c.if-digits-eq3.true)) ∙ rw c.if-digits-eq3.true
+
+pub thousandths-requires : goal.thousandths-requires
+thousandths-requires c = omega (arith, c.requires.0, wide (goal.at.thousandths-requires c).Then-digits-eq3)
+
+pub returns-in_default : goal.returns-in_default
+returns-in_default c = (sym (ap number_row c.in_default.is) ∙ c.thousandths.ensures ∙ rw c.if-digits-eq3.true, tt)
+
+pub returns-then-digits-eq3 : goal.returns-then-digits-eq3
+returns-then-digits-eq3 c =
+    let three = c in
+    (sym (ap number_row c.in-Read.is) ∙ c.thousandths.ensures ∙ rw three.if-digits-eq3.true, omega (arith, wide (goal.at.returns-then-digits-eq3 c).Then-digits-eq3))

@@ -1,0 +1,13 @@
+-- `fraction_digits` meets its contract: the tens come out of the product, and with them the ones. Assumes nothing.
+use Rattle.std.proofs.Common.{refl, arith, rules}
+use Rattle.text.proofs.Lanes.{fraction_tens, fraction_digits}
+use Rattle.text.proofs.words.fraction_digits.Goals as goal
+
+pub overflow_mul-result-2 : goal.overflow_mul-result-2
+overflow_mul-result-2 c = omega (arith, c.requires, fraction_tens c.args.a c.args.b c.args.c c.requires)
+
+pub overflow_sub-result : goal.overflow_sub-result
+overflow_sub-result c = omega (arith, c.requires, fraction_tens c.args.a c.args.b c.args.c c.requires)
+
+pub returns : goal.returns
+returns c = fraction_digits c.args.a c.args.b c.args.c c.requires _ _ refl (fraction_tens c.args.a c.args.b c.args.c c.requires)

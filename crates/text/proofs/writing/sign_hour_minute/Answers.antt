@@ -1,0 +1,14 @@
+-- `sign_hour_minute` meets its contract: the word law, once each part is two digits. Assumes nothing.
+use Rattle.std.proofs.Common.{◌-◌, ◌*◌, ◌/◌, refl, arith, to_z-of_z, w32, to_z, of_z, rules}
+use Rattle.text.proofs.PuttingWords.{mark_small, offset_word}
+use Rattle.text.proofs.writing.sign_hour_minute.Goals as goal
+
+pub overflow_add-result-2 : goal.overflow_add-result-2
+overflow_add-result-2 c = omega (arith, c.sign_mark.ensures, mark_small (to_z w32 (of_z w32 c.args.minutes)), c.offset_digits.ensures.small)
+
+pub returns : goal.returns
+returns c =
+    let a = c in
+    let n = a.args.ahead in
+    rw (c.offset_digits.ensures.word, c.sign_mark.ensures, to_z-of_z a.ranges.minutes)
+    (offset_word a.args.minutes n (n / 60) (n - 60 * (n / 60)) refl (omega arith) a.requires)
