@@ -11,8 +11,7 @@ use Rattle.format.specs.Values.{Kind, Time, TimeTz}
 use Rattle.format.specs.Reading.{first_bits}
 use Rattle.format.specs.EitherOr.{TimeOrTz, kind_by01, kind_in}
 use borrow.Author.Rules.{rules}
-use Rattle.stamp.proofs.either.time_kind_of_seven.Statement.{statement}
-use Rattle.stamp.proofs.either.time_kind_of_seven.Tie as tie
+use Rattle.stamp.proofs.either.time_kind_of_seven.Goals as goal
 
 zoned : (s : List ℕ) → length s ≡ 7 → get_or s 0 0 / 16 ≡ 9 → TimeTz ≡ kind_in TimeOrTz s
 unfolding kind_in kind_by01 first_bits
@@ -26,14 +25,8 @@ plain s l b = rw (l, ne_eqb (get_or s 0 0 / 16) 9 b) (go (eqb (get_or s 0 0 / 16
     go true = refl
     go false = refl
 
-shared-slice-read-if1 : tie.Need-shared-slice-read-if1
-shared-slice-read-if1 c = search rules
+pub returns-then-s-eq9 : goal.returns-then-s-eq9
+returns-then-s-eq9 c = zoned c.args.s.now c.requires c.if-s-eq9.true
 
-returns : tie.Need-returns
-returns c = zoned c.before.before.args.s.now c.before.before.requires c.if1.true
-
-returns-2 : tie.Need-returns-2
-returns-2 c = plain c.before.before.args.s.now c.before.before.requires c.if1.false
-
-pub time-kind-of-seven-spec : {M : Type 1} → statement M
-time-kind-of-seven-spec = tie.close (tie.spec shared-slice-read-if1 returns returns-2)
+pub returns : goal.returns
+returns c = plain c.args.s.now c.requires c.if-s-eq9.false

@@ -1,0 +1,19 @@
+-- `read_time` meets its contract: what the reader of the chosen form found, under the kind. Assumes nothing.
+use mathlib.Core.Path.{sym, ◌∙◌, ap}
+use native.Mathlib.Omega.{arith}
+use Rattle.format.specs.Values.{Time}
+use Rattle.format.specs.Keeping.{own}
+use Rattle.values.specs.Answers.{parsed}
+use Rattle.stamp.proofs.Decoding.{under_kind}
+use borrow.Author.Rules.{rules}
+use Rattle.stamp.proofs.readers.read_time.Goals as goal
+
+pub returns-in-Stamp : goal.returns-in-Stamp
+unfolding own
+returns-in-Stamp c =
+    let found = c in
+    let r = found in
+    under_kind Time _ _ _ (λ i. omega (arith, r.type_inv.s i)) (sym (ap (parsed _) found.in-Stamp.is) ∙ r.parse_time.ensures)
+
+pub returns-in-Refused : goal.returns-in-Refused
+returns-in-Refused c = sym (ap (parsed _) c.in-Refused.is) ∙ c.parse_time.ensures

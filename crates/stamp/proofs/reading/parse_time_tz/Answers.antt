@@ -1,0 +1,31 @@
+-- `parse_time_tz` meets its contract: the form that is chosen, and what its reader answers. Assumes nothing.
+use mathlib.Core.Path.{sym, ◌∙◌}
+use native.Mathlib.Omega.{arith}
+use borrow.Author.Tests.{eq-eqb, ne_eqb}
+use Rattle.format.specs.Values.{TimeTz}
+use Rattle.format.specs.Extended.{head_bits}
+use Rattle.format.specs.Reading.{first_bits}
+use Rattle.stamp.proofs.Choosing.{as_compact, as_extended, as_text}
+use borrow.Author.Rules.{rules}
+use Rattle.stamp.proofs.reading.parse_time_tz.Goals as goal
+
+pub returns-then-s-longest : goal.returns-then-s-longest
+returns-then-s-longest c = rw (as_compact TimeTz _ (rw c.longest.ensures at c.if-s-longest.true)) c.read_time_tz.ensures
+
+pub read_time_tz-requires-then-s-head_bits : goal.read_time_tz-requires-then-s-head_bits
+unfolding first_bits head_bits
+read_time_tz-requires-then-s-head_bits c = (c.if-s-head_bits.true ∙ c.head_bits.ensures, omega (arith, c.longest.ensures, c.if-s-longest.false))
+
+pub returns-then-s-head_bits : goal.returns-then-s-head_bits
+unfolding first_bits head_bits
+returns-then-s-head_bits c =
+    let e = c in
+    let l = e in
+    rw (as_extended TimeTz _ (rw l.longest.ensures at l.if-s-longest.false) (eq-eqb _ _ (e.if-s-head_bits.true ∙ e.head_bits.ensures))) c.read_time_tz-then-s-head_bits.ensures
+
+pub returns : goal.returns
+unfolding first_bits head_bits
+returns c =
+    let e = c in
+    let l = e in
+    rw (as_text TimeTz _ (rw l.longest.ensures at l.if-s-longest.false) (ne_eqb _ _ (λ p. e.if-s-head_bits.false (p ∙ sym e.head_bits.ensures)))) c.read_time_tz-2.ensures

@@ -1,0 +1,46 @@
+-- `write_time_tz` meets its contract: the digits first, then the writer of the chosen form; what the kind lacks is 0. Assumes nothing.
+use mathlib.Core.Path.{◌≡◌, sym, ◌∙◌, ap}
+use mathlib.Core.Bool.{true}
+use Rattle.format.specs.Values.{digits_in_range}
+use Rattle.format.proofs.Cases.{not_true, not_false}
+use Rattle.values.specs.Meaning.{form_from}
+use Rattle.values.proofs.Writes.{refuses}
+use Rattle.stamp.proofs.Choosing.{too_many, in_form, chosen_digits}
+use borrow.Author.Rules.{rules}
+use Rattle.stamp.proofs.writers.write_time_tz.Goals as goal
+use Rattle.stamp.proofs.writers.write_time_tz.Goals.{Else-not-in_range}
+
+few : (c : Else-not-in_range) → digits_in_range c.before.before.before.args.settings.digits ≡ true
+few c = sym c.before.in_range.ensures ∙ not_false _ c.if-not-in_range.false-raw
+
+pub returns-then-not-in_range : goal.returns-then-not-in_range
+returns-then-not-in_range c = rw (too_many _ _ _ (sym c.in_range.ensures ∙ not_true _ c.if-not-in_range.true-raw)) (refuses 1 _)
+
+pub write_time_tz-requires : goal.write_time_tz-requires
+write_time_tz-requires c =
+    let f = c in
+    chosen_digits _ _ _ (few (goal.at.write_time_tz-requires c).Else-not-in_range) _ (sym f.form.ensures ∙ ap form_from c.in-Text.is)
+
+pub returns-in-Text : goal.returns-in-Text
+returns-in-Text c =
+    let w = c in
+    let t = w in
+    let f = t in
+    let n = f in
+    rw (in_form _ _ _ (few (goal.at.returns-in-Text c).Else-not-in_range), (rw n.new.ensures at (sym f.form.ensures ∙ ap form_from t.in-Text.is))) (rw n.new.ensures at w.write_time_tz.ensures)
+
+pub returns-in-Compact : goal.returns-in-Compact
+returns-in-Compact c =
+    let w = c in
+    let t = w in
+    let f = t in
+    let n = f in
+    rw (in_form _ _ _ (few (goal.at.returns-in-Compact c).Else-not-in_range), (rw n.new.ensures at (sym f.form.ensures ∙ ap form_from t.in-Compact.is))) (rw n.new.ensures at w.write_time_tz-in-Compact.ensures)
+
+pub returns-in-Extended : goal.returns-in-Extended
+returns-in-Extended c =
+    let w = c in
+    let t = w in
+    let f = t in
+    let n = f in
+    rw (in_form _ _ _ (few (goal.at.returns-in-Extended c).Else-not-in_range), (rw n.new.ensures at (sym f.form.ensures ∙ ap form_from t.in-Extended.is))) (rw n.new.ensures at w.write_time_tz-in-Extended.ensures)
