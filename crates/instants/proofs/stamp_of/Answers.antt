@@ -1,0 +1,18 @@
+-- `stamp_of` meets its contract: a local reading is beyond the years where the calendar knows no such day. Assumes nothing.
+use Rattle.std.proofs.Common.{sym, ap, ◌∙◌, rules}
+use Rattle.calendar.specs.Meaning.{day_from, day_answered}
+use Rattle.moments.specs.Instant.{stamp_of}
+use Rattle.instants.proofs.Tests.{date_known, past_years}
+use Rattle.instants.proofs.stamp_of.Goals as goal
+
+pub returns-in_default : goal.returns-in_default
+returns-in_default c =
+    let d = c in
+    rw (past_years d.args.local (ap day_answered (sym c.in_default.is) ∙ d.date_of.ensures))
+
+pub returns : goal.returns
+unfolding stamp_of
+returns c =
+    let d = c in
+    let k = date_known d.args.local (day_from c.in-Date.date) (ap day_answered (sym c.in-Date.is) ∙ d.date_of.ensures) in
+    rw (k.0, k.1, c.new-time.ensures)

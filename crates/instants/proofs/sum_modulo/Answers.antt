@@ -1,0 +1,11 @@
+-- `sum_modulo` meets its contract: the parts modulo 2^64 add up to the sum modulo 2^64. Assumes nothing.
+use Rattle.std.proofs.Common.{◌≡◌, ◌∙◌, to_z-of_z, w64, to_z, of_z, rules}
+use Rattle.instants.proofs.Modular.{modulo_sum}
+use Rattle.instants.proofs.sum_modulo.Goals as goal
+
+pub returns : goal.returns
+returns c =
+    let s = c in
+    let a : to_z w64 (of_z w64 s.args.a) ≡ s.args.a = to_z-of_z s.ranges.a in
+    let b : to_z w64 (of_z w64 s.args.b) ≡ s.args.b = to_z-of_z s.ranges.b in
+    c.wrapping_add_u64.ensures.value ∙ rw (c.modulo.ensures, c.modulo-2.ensures, a, b) (modulo_sum s.args.a s.args.b s.ranges.a.sfits s.ranges.b.sfits)
