@@ -8,8 +8,7 @@ use borrow.Author.Tests.{eq-eqb, ne_eqb, eqb-true, le-leb}
 use Rattle.format.specs.Words.{both}
 use Rattle.format.proofs.Cases.{both_false}
 use Rattle.card.specs.Step.{placed}
-use Rattle.schedule.proofs.fields.is_placed.Statement.{statement}
-use Rattle.schedule.proofs.fields.is_placed.Tie as tie
+use Rattle.schedule.proofs.fields.is_placed.Goals as goal
 
 -- where the ends are the same, the one is not past the other
 same_end : (a b : ℕ) → eqb a b ≡ both (leb a b) (eqb a b)
@@ -19,25 +18,22 @@ same_end a b = go (eqb a b) refl
     go true e = rw (e, le-leb a b (omega (arith, eqb-true a b e)))
     go false e = rw (e, both_false (leb a b))
 
-returns : tie.Need-returns
+pub returns-then-start-ended : goal.returns-then-start-ended
 unfolding placed
-returns c = rw (ne_eqb _ _ c.if1.true)
+returns-then-start-ended c = rw (ne_eqb _ _ c.if-start-ended.true)
 
-returns-2 : tie.Need-returns-2
+pub returns-then-last : goal.returns-then-last
 unfolding placed
-returns-2 c =
-    let a = c.before.before.args in
-    rw (eq-eqb a.start a.ended c.before.if1.false, c.if2.true) (same_end a.end a.octets)
+returns-then-last c =
+    let a = c.args in
+    rw (eq-eqb a.start a.ended c.if-start-ended.false, c.if-last.true) (same_end a.end a.octets)
 
-returns-3 : tie.Need-returns-3
+pub returns : goal.returns
 unfolding placed
-returns-3 c =
-    let a = c.before.before.args in
-    rw (eq-eqb a.start a.ended c.before.if1.false, c.if2.false) (both-true-is (leb a.end a.octets))
+returns c =
+    let a = c.args in
+    rw (eq-eqb a.start a.ended c.if-start-ended.false, c.if-last.false) (both-true-is (leb a.end a.octets))
   where
     both-true-is : (b : Bool) → b ≡ both b true
     both-true-is true = refl
     both-true-is false = refl
-
-pub is-placed-spec : {M : Type 1} → statement M
-is-placed-spec = tie.close (tie.spec returns returns-2 returns-3)

@@ -5,18 +5,11 @@ use mir.Facts.{to_z-of_z}
 use Rattle.format.specs.Octets.{Octets}
 use Rattle.schedule.proofs.Endings.{runs_walks}
 use borrow.Author.Rules.{rules}
-use Rattle.schedule.proofs.walk.up_to.Statement.{statement}
-use Rattle.schedule.proofs.walk.up_to.Tie as tie
+use Rattle.schedule.proofs.walk.up_to.Goals as goal
 
-run-requires : tie.Need-run-requires
-run-requires c κs = search rules
-
-returns : tie.Need-returns
+pub returns : goal.returns
 returns c =
-    let r = c.before.before in
+    let r = c in
     let s = r.args.file.now in
-    let o : Octets s = λ k. omega (arith, c.before.shared-slice-known.given k) in
+    let o : Octets s = λ k. omega (arith, c.type_inv.file k) in
     runs_walks s r.args.until o r.requires.good c.run.result (rw (to_z-of_z {w = w64} {z = r.args.until} r.ranges.until) at c.run.ensures)
-
-pub up-to-spec : {M : Type 1} → statement M
-up-to-spec = tie.close (tie.spec run-requires returns)

@@ -1,0 +1,76 @@
+-- `step` meets its contract: the fields, then the stamp, then the order. Assumes nothing.
+-- ---- what the parts tell
+use mathlib.Core.Path.{◌≡◌, sym, ◌∙◌, ap}
+use mathlib.Core.Bool.{true}
+use Prim.Native.Nat.{◌+◌}
+use native.Mathlib.Omega.{arith}
+use lib.Dec.{eqb}
+use mir.Syntax.{w64}
+use mir.Facts.{to_z-of_z}
+use Rattle.format.proofs.Cases.{not_true, not_false}
+use Rattle.format.specs.Values.{DatetimeTz}
+use Rattle.format.specs.Reading.{read}
+use Rattle.card.specs.Header.{twelve}
+use Rattle.card.specs.Records.{stamp_at}
+use Rattle.schedule.specs.Steps.{fields_in, right, instant_in, timed}
+use Rattle.schedule.proofs.Ranges.{late, in_order_lem}
+use Rattle.schedule.proofs.Stepping.{fields_small, record_fits, stamp_fits, step_bad, step_refused, step_timed}
+use borrow.Author.Rules.{rules, sfits_of}
+use Rattle.schedule.proofs.walk.step.Goals as goal
+use Rattle.schedule.proofs.walk.step.Goals.{After-instant_at, Else-not-are_right}
+
+right-fields : (c : Else-not-are_right) → (let a = c.args in right (fields_in a.file.now a.i) a.before.ended a.regions.octets (eqb (a.i + 1) a.regions.records) ≡ true)
+right-fields c = rw c.fields_at-fields.ensures at (sym c.are_right.ensures ∙ not_false _ c.if-not-are_right.false-raw)
+
+read-stamp : (c : After-instant_at) → (let a = c.args in timed c.instant_at.result ≡ instant_in (read DatetimeTz (stamp_at twelve a.file.now a.i)))
+unfolding stamp_at
+read-stamp c = rw (c.fields_at-fields.ensures, c.requires.0.stamps) at c.instant_at.ensures
+
+pub fields_at-fields-requires : goal.fields_at-fields-requires
+fields_at-fields-requires c = let r = c in let a = r.args in record_fits a.file.now a.regions r.requires.0 a.i r.requires.1
+
+pub are_right-requires : goal.are_right-requires
+are_right-requires c = rw c.fields_at-fields.ensures (fields_small _ _ (λ i. omega (arith, c.type_inv.file i)))
+
+pub returns-then-not-are_right : goal.returns-then-not-are_right
+returns-then-not-are_right c =
+    let r = c in
+    let a = r.args in
+    sym (step_bad a.file.now a.regions r.requires.0 a.i a.before (rw c.fields_at-fields.ensures at (sym c.are_right.ensures ∙ not_true _ c.if-not-are_right.true-raw)))
+
+pub overflow_add-stamps : goal.overflow_add-stamps
+overflow_add-stamps c =
+    let r = c in
+    let a = r.args in
+    let f = stamp_fits a.file.now a.regions r.requires.0 a.i a.before (right-fields (goal.at.overflow_add-stamps c).Else-not-are_right) in
+    rw c.fields_at-fields.ensures (record { fits = omega (arith, f) })
+
+pub instant_at-requires : goal.instant_at-requires
+instant_at-requires c =
+    let r = c in
+    let a = r.args in
+    rw c.fields_at-fields.ensures (stamp_fits a.file.now a.regions r.requires.0 a.i a.before (right-fields (goal.at.instant_at-requires c).Else-not-are_right))
+
+pub returns-then-instant-last : goal.returns-then-instant-last
+returns-then-instant-last c =
+    let r = c in
+    let a = r.args in
+    let e = ap timed (sym c.in-At.is) ∙ read-stamp (goal.at.returns-then-instant-last c).After-instant_at in
+    let o = late c.in-At.instant a.before.last (sfits_of (search rules)) (sfits_of (search rules)) c.if-instant-last.true in
+    rw o at (sym (step_timed a.file.now a.regions r.requires.0 a.i a.before c.in-At.instant (right-fields (goal.at.returns-then-instant-last c).Else-not-are_right) (sym e)))
+
+pub returns-else-instant-last : goal.returns-else-instant-last
+returns-else-instant-last c =
+    let r = c in
+    let a = r.args in
+    let e = ap timed (sym c.in-At.is) ∙ read-stamp (goal.at.returns-else-instant-last c).After-instant_at in
+    let o = in_order_lem c.in-At.instant a.before.last (sfits_of (search rules)) (sfits_of (search rules)) c.if-instant-last.false in
+    rw (c.fields_at-fields.ensures, to_z-of_z {w = w64} {z = c.in-At.instant} (sfits_of (search rules)))
+    (rw o at (sym (step_timed a.file.now a.regions r.requires.0 a.i a.before c.in-At.instant (right-fields (goal.at.returns-else-instant-last c).Else-not-are_right) (sym e))))
+
+pub returns-in-Refused : goal.returns-in-Refused
+returns-in-Refused c =
+    let r = c in
+    let a = r.args in
+    let e = ap timed (sym c.in-Refused.is) ∙ read-stamp (goal.at.returns-in-Refused c).After-instant_at in
+    sym (step_refused a.file.now a.regions r.requires.0 a.i a.before _ (right-fields (goal.at.returns-in-Refused c).Else-not-are_right) (sym e))
