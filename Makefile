@@ -4,15 +4,16 @@
 # make uninstall  takes away what make install puts there, given the same words
 # make compare    the library beside the second program, over more than two thousand million calls; some minutes
 # make measure    our calls beside a plain C version, timed; the table goes to docs/MEASURE.md
-# The library is proved and compiled by the Rattle kit's `rt`. For another machine than this one, after `make clean`: make MACHINE=aarch64
-# CC=aarch64-linux-gnu-gcc, or make MACHINE=x86_64 CC=x86_64-linux-gnu-gcc.
+# The library is proved and compiled by the Rattle kit's `rt`, which runs on x86-64. For 64-bit Arm it is made there too, after `make clean`:
+# make MACHINE=aarch64 CC=aarch64-linux-gnu-gcc.
 PREFIX ?= /usr/local
 LIBDIR ?= $(PREFIX)/lib
 MACHINE := $(shell uname -m)
 RELEASE := $(shell sed -n 's/.*STAMP_RELEASE "\(.*\)".*/\1/p' include/stamp.h)
 SHARED := libstamp.so.$(RELEASE)
 SONAME := libstamp.so.$(firstword $(subst ., ,$(RELEASE)))
-PROOFS := $(shell find crates crates.txt -type f)
+# All that the proofs read; out/ is what `rt` makes of it.
+PROOFS := $(shell find crates crates.txt -path 'crates/*/out' -prune -o -type f -print)
 HEADER := include/stamp.h
 TOOL := $(wildcard tool/*.c)
 HEADER_TESTS := $(wildcard tool/tests/header*.c)
@@ -25,7 +26,7 @@ all: libstamp.a $(SHARED) build/stamp
 
 libstamp.a: $(PROOFS) packaging/archive
 	@packaging/needs build $(CC)
-	packaging/archive boundary $(MACHINE) $@
+	packaging/archive boundary_c $(MACHINE) $@
 
 # It needs no other library; were a function of the C library called one day, -lc is there for it.
 $(SHARED): libstamp.a packaging/exports
@@ -97,18 +98,20 @@ compare: build/mass
 
 # ---- The measure
 
-# The plain C is compiled as the kit compiles the library: by the same compiler at the same level. It comes without the C library's headers.
+# The plain C is compiled as the kit compiles the library: by the same compiler at the same level. It comes without the C library's headers, and takes
+# those of CC.
 CLANG = $(shell packaging/toolchain)/bin/clang
 LEVEL := -O3 -fPIC
+KIT = $(shell rt version)
 PLAIN := $(patsubst measure/%.c,build/%.o,$(wildcard measure/plain_*.c))
-SYSTEM = -isystem $(shell $(CC) -print-file-name=include) -isystem /usr/include -isystem /usr/include/$(shell $(CC) -print-multiarch)
+SYSTEM = $(addprefix -isystem ,$(shell $(CC) -E -Wp,-v -x c /dev/null 2>&1 | sed -n 's/^ \//\//p'))
 
-# Behind libstamp.a, as two checks at once would use one folder.
+# Behind libstamp.a, so that two checks are not run at once.
 build/libmeasured.a: $(PROOFS) packaging/archive | build libstamp.a
 	packaging/archive measured $(MACHINE) $@
 
 build/%.o: measure/%.c $(wildcard measure/*.h) $(HEADER) Makefile | build
-	$(CLANG) --target=$(MACHINE)-unknown-linux-gnu -std=c99 $(LEVEL) -DLEVEL='"$(LEVEL)"' -Wall -Wextra $(SYSTEM) -Iinclude -c $< -o $@
+	$(CLANG) --target=$(MACHINE)-unknown-linux-gnu -std=c99 $(LEVEL) -DLEVEL='"$(LEVEL)"' -DKIT='"$(KIT)"' -Wall -Wextra $(SYSTEM) -Iinclude -c $< -o $@
 
 build/measure: build/measure.o $(PLAIN) libstamp.a build/libmeasured.a
 	$(CC) $^ -o $@

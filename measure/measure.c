@@ -142,7 +142,7 @@ int main(void)
 {
     const stamps text = {STAMP_DATETIMETZ, STAMP_TEXT, STAMP_DEFAULT_DIGITS, STAMP_MAX_RECORDS, 0};
     const stamps any = {STAMP_DATE, STAMP_TEXT, STAMP_DEFAULT_DIGITS, 0, 0};
-    printf("compiler\t%s, %s\nvalues\t%d\nfiles\t%d\nturns\t%d\n", __VERSION__, LEVEL, VALUES, FILES, TURNS);
+    printf("kit\t%s\ncompiler\t%s, %s\nvalues\t%d\nfiles\t%d\nturns\t%d\n", KIT, __VERSION__, LEVEL, VALUES, FILES, TURNS);
     for (uint32_t form = 0; form < STAMP_FORMS; form++)
         for (uint32_t kind = 0; kind < STAMP_READERS; kind++)
             report_stamps(kind, form);

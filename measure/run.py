@@ -63,7 +63,7 @@ def processor():
 
 HEAD = '''# Measure
 
-Our calls beside a plain C version of the same work (`measure/plain_*.c`). `make measure` writes this page, a section for each machine that it was run on, with the commit that was measured. Nothing in it is written by hand.
+Our calls beside a plain C version of the same work (`measure/plain_*.c`). `make measure` writes this page, a section for each machine that it was run on, with the commit that was measured. Nothing in it is written by hand. A section whose first line names no kit is of an older kit's library, and was not measured again.
 '''
 
 
@@ -82,7 +82,7 @@ def section(about, rows, runs, load):
     return '\n'.join([
         f'## {machine()}',
         '',
-        f'- Code: {code()}. Measured is the delivered archive, `libstamp.a`.',
+        f"- Code: {code()}. Measured is the delivered archive, `libstamp.a`, by the kit `{about['kit']}`.",
         f'- Processor: {processor()}, {os.cpu_count()} of them; load average {load:.2f} at the start.',
         f"- Compiler: the kit's {about['compiler']}, for both.",
         f"- How: {len(runs)} processes, one after the other. In each, {int(about['values']):,} values a row, ours and plain in turns, {about['turns']} "

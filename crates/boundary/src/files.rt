@@ -6,8 +6,7 @@ ghost use Rattle.boundary.specs.Files.{record_numbers, held_numbers, in_words, a
 use instants::Instant;
 use schedule::{Asked, Found, FullReading, Held, Record, Source};
 
-#[unsafe(no_mangle)]
-pub extern "C" fn stamp_schedule_read(file: &[u8], records: &mut u32, fault: &mut u32) -> u32
+pub fn stamp_schedule_read(file: &[u8], records: &mut u32, fault: &mut u32) -> u32
     ensures { ReadForC file.now result records.new fault.new }
 {
     match schedule::read(file) {
@@ -49,8 +48,7 @@ fn hand_record(answer: Found, parts: &mut [i64; 5]) -> u32
     }
 }
 
-#[unsafe(no_mangle)]
-pub extern "C" fn stamp_schedule_record(file: &[u8], place: u32, parts: &mut [i64; 5]) -> u32
+pub fn stamp_schedule_record(file: &[u8], place: u32, parts: &mut [i64; 5]) -> u32
     ensures { RecordForC file.now place parts.old result parts.new }
 {
     hand_record(schedule::record_at(file, place), parts)
@@ -85,8 +83,7 @@ fn hand_asked(answer: Asked, parts: &mut [i64; 5]) -> u32
     }
 }
 
-#[unsafe(no_mangle)]
-pub extern "C" fn stamp_schedule_holds(
+pub fn stamp_schedule_holds(
     file: &[u8],
     instant: i64,
     channel: u32,
@@ -100,8 +97,7 @@ pub extern "C" fn stamp_schedule_holds(
     hand_asked(answer, parts)
 }
 
-#[unsafe(no_mangle)]
-pub extern "C" fn stamp_schedule_over(
+pub fn stamp_schedule_over(
     plan: &[u8],
     manual: &[u8],
     instant: i64,

@@ -1,4 +1,4 @@
-// The C boundary: numbers, and octets as a pointer and a length. No allocation, no state.
+// The calls for C: numbers, and octets as slices. `boundary_c` exports them. No allocation, no state.
 #![tactic(auto)]
 
 ghost use Rattle.std.specs.Prelude.{◌≡◌};
@@ -12,6 +12,10 @@ mod handing;
 mod utc;
 
 use calendar::Date;
+pub use files::{
+    stamp_schedule_holds, stamp_schedule_over, stamp_schedule_read, stamp_schedule_record,
+};
+pub use utc::{stamp_add, stamp_at, stamp_difference, stamp_instant, stamp_restate};
 use values::{
     DateTz, Datetime, DatetimeTz, Kind, Offset, Refusal, Settings, Time, TimeTz, Written,
 };
@@ -82,9 +86,8 @@ fn write_numbered(
     write_known(kind, date, time, offset, settings, octets)
 }
 
-// A slice is a pointer and a length to C: `uint8_t *octets, size_t room`. Parts that the kind lacks are not looked at.
-#[unsafe(no_mangle)]
-pub extern "C" fn stamp_write(
+// Parts that the kind lacks are not looked at.
+pub fn stamp_write(
     kind: u32,
     year: u32,
     month: u32,
@@ -133,8 +136,7 @@ fn kind_in(number: u32, octets: &[u8]) -> Known
     }
 }
 
-#[unsafe(no_mangle)]
-pub extern "C" fn stamp_read(kind: u32, octets: &[u8], parts: &mut [i64; 8]) -> u32
+pub fn stamp_read(kind: u32, octets: &[u8], parts: &mut [i64; 8]) -> u32
     ensures { ReadsNumbered kind octets.now parts.old result parts.new }
 {
     let Known::Kind(found) = kind_in(kind, octets) else {

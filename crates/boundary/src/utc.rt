@@ -64,8 +64,7 @@ fn hand_stamp(answer: Stated, parts: &mut [i64; 5]) -> u32
 
 // ---- the calls
 
-#[unsafe(no_mangle)]
-pub extern "C" fn stamp_instant(
+pub fn stamp_instant(
     year: u32,
     month: u32,
     day: u32,
@@ -79,16 +78,14 @@ pub extern "C" fn stamp_instant(
     hand_instant(instants::instant_of(stamp), instant)
 }
 
-#[unsafe(no_mangle)]
-pub extern "C" fn stamp_add(instant: i64, micros: i64, sum: &mut i64) -> u32
+pub fn stamp_add(instant: i64, micros: i64, sum: &mut i64) -> u32
     ensures { AddForC instant micros sum.old result sum.new }
 {
     let start = Instant::new(instant);
     hand_instant(start.add(micros), sum)
 }
 
-#[unsafe(no_mangle)]
-pub extern "C" fn stamp_difference(a: i64, b: i64, difference: &mut i64) -> u32
+pub fn stamp_difference(a: i64, b: i64, difference: &mut i64) -> u32
     ensures { DifferenceForC a b difference.old result difference.new }
 {
     let one = Instant::new(a);
@@ -102,8 +99,7 @@ pub extern "C" fn stamp_difference(a: i64, b: i64, difference: &mut i64) -> u32
     }
 }
 
-#[unsafe(no_mangle)]
-pub extern "C" fn stamp_at(instant: i64, offset: i32, parts: &mut [i64; 5]) -> u32
+pub fn stamp_at(instant: i64, offset: i32, parts: &mut [i64; 5]) -> u32
     ensures { AtForC instant offset parts.old result parts.new }
 {
     let moment = Instant::new(instant);
@@ -111,8 +107,7 @@ pub extern "C" fn stamp_at(instant: i64, offset: i32, parts: &mut [i64; 5]) -> u
     hand_stamp(moment.at(offset), parts)
 }
 
-#[unsafe(no_mangle)]
-pub extern "C" fn stamp_restate(
+pub fn stamp_restate(
     year: u32,
     month: u32,
     day: u32,
