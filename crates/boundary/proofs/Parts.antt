@@ -32,7 +32,7 @@ pub unsigned_kept : (n : ℕ) → n < 2 ^ 63 → to_z w64 n ≡ pos n
 unsigned_kept n h = to_z-of_z {w = w64} (record { sfits = h })
 
 signed_kept : (x : ℤ) → SFits w32 x → to_z w64 (of_z w64 (to_z w32 (of_z w32 x))) ≡ x
-signed_kept x f = rw (to_z-of_z f) (to_z-of_z (sfits_widen tt f))
+signed_kept x f = rw (to_z-of_z f) (to_z-of_z {w = w64} (sfits_widen tt f))
 
 pub five_kept : (year month day micros : ℕ) (offset : ℤ)
     → year < 2 ^ 32 → month < 2 ^ 32 → day < 2 ^ 32 → micros ≤ end_of_day → SFits w32 offset
