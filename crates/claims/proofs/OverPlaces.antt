@@ -14,10 +14,9 @@ use Rattle.format.specs.Values.{DatetimeTz, Answer}
 use Rattle.format.specs.Reading.{read}
 use Rattle.format.proofs.Cases.{never}
 use Rattle.moments.specs.Instant.{local_of, ahead, instant_of}
-use Rattle.moments.proofs.Limits.{instant_is}
 use Rattle.card.specs.Header.{twelve, count_of, stamp_octets, stamps_start}
 use Rattle.card.specs.Records.{start_at, length_at, channel_at, correction_at, stamp_at, instant_at, record_at, in_file}
-use Rattle.card.specs.Step.{Last, at, before_at, in_order, fields_good, timed, step}
+use Rattle.card.specs.Step.{Last, before_at, in_order, fields_good, timed, step}
 use Rattle.card.proofs.Described as D
 use Rattle.card.proofs.Stepping as stepping
 use Rattle.claims.specs.Schedule.{start_of, length_of, channel_of, correction_of, stamp_of, moment_of, StartsAt, Header, InPlace, InOrder, Good, Faulty}

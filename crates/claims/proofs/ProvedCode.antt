@@ -1,7 +1,7 @@
 -- The claims over the promises, each from the law that holds for every kind. Assumes nothing.
 use Prim.Native.Nat.{ℕ, suc, ◌≤◌}
 use native.Mathlib.Omega.{arith}
-use mathlib.Core.Path.{◌≡◌, refl, sym, ◌∙◌, ap}
+use mathlib.Core.Path.{◌≡◌, refl, sym, ◌∙◌}
 use mathlib.Core.Logic.{⊎_elim}
 use mathlib.Core.Bool.{Bool, true, false}
 use mathlib.Core.List.{List, ◌++◌}
@@ -27,7 +27,7 @@ use Rattle.values.specs.declared.answers.Written.TheVariants as W
 use Rattle.values.specs.declared.answers.Reading.{Reading}
 use Rattle.values.specs.declared.answers.Reading.TheVariants as G
 use Rattle.values.specs.Meaning.{refusal_number, settings_from}
-use Rattle.values.specs.Answers.{written_number, written_count, reading}
+use Rattle.values.specs.Answers.{written_number, written_count}
 use Rattle.values.specs.Promise.{Writes, Reads}
 use Rattle.values.proofs.OneAnswer.{one_writing}
 use Rattle.claims.proofs.Proved.{own_kinds}

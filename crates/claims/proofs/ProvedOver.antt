@@ -1,8 +1,8 @@
 -- The claims of request 6: manual over plan. Assumes nothing.
 use mathlib.Core.Path.{◌≡◌, refl, sym, ◌∙◌, ap, ap₂, subst}
-use mathlib.Core.Logic.{◌↔◌, ◌⊎◌, inl, inr, ⊎_elim}
+use mathlib.Core.Logic.{◌⊎◌, inl, inr, ⊎_elim}
 use mathlib.Core.Bool.{Bool, true, false}
-use mathlib.Core.List.{List, [], ◌∷◌}
+use mathlib.Core.List.{List, []}
 use Prim.Native.Nat.{ℕ, ◌+◌, ◌≤◌}
 use native.Mathlib.Omega.{arith}
 use lib.IntN.{ℤ}
@@ -21,8 +21,6 @@ use Rattle.card.proofs.Tests.{le_z_refl}
 use Rattle.card.proofs.Over.{Standing, held_stands, part_within}
 use Rattle.card.proofs.BenchOfParts as bench
 use Rattle.instants.specs.declared.Instant.{Instant}
-use Rattle.schedule.specs.declared.parts.Part.{Part as GivenPart}
-use Rattle.schedule.specs.Meaning.{part_from}
 use Rattle.schedule.specs.Calls.{PartOf, HandsBack}
 use Rattle.boundary.specs.Files.{source_number, part_numbers, OverForC}
 use Rattle.claims.specs.Over.{HoldsIn, NoneIn, RefusedIn, Unheld, FromPlan, FromManual, Alike}

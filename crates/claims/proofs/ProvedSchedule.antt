@@ -15,7 +15,7 @@ use Rattle.moments.specs.Instant.{instant_of}
 use Rattle.moments.proofs.Limits.{instant_is}
 use Rattle.card.specs.Header.{twelve, count_of}
 use Rattle.card.specs.Records.{Record}
-use Rattle.card.specs.Step.{at, before_at}
+use Rattle.card.specs.Step.{before_at}
 use Rattle.card.specs.Reading.{records, refused_at, FullReading, full_reading, record_asked}
 use Rattle.card.proofs.Exactly as accepting
 use Rattle.card.proofs.FirstFault as first

@@ -19,7 +19,6 @@ use Rattle.values.specs.declared.kinds.TimeTz.{TimeTz}
 use Rattle.values.specs.declared.kinds.Datetime.{Datetime}
 use Rattle.values.specs.declared.kinds.DatetimeTz.{DatetimeTz}
 use Rattle.values.specs.declared.refusal.Refusal.{Refusal}
-use Rattle.values.specs.declared.settings.Form.{Form}
 use Rattle.values.specs.declared.settings.Settings.{Settings}
 use Rattle.values.specs.declared.answers.Written.{Written}
 use Rattle.values.specs.declared.answers.Written.TheVariants as W

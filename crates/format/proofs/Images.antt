@@ -4,11 +4,11 @@ use mathlib.Core.Bool.{Bool, true, false, not}
 use mathlib.Core.List.{List, [], ◌∷◌, ◌++◌}
 use Prim.Native.Nat.{ℕ, zero, suc, ◌+◌, ◌/◌, ◌%◌, ◌^◌, ◌<◌, ◌≤◌}
 use native.Mathlib.Omega.{arith}
-use lib.IntN.{ℤ, nat_abs}
+use lib.IntN.{ℤ}
 use lib.Dec.{leb, eqb}
 use lib.ListN.{length, take, drop}
 use borrow.Author.Tests.{leb-true}
-use Rattle.format.specs.Words.{pick, both, either, needs, if_any, Outcome, accepted, refused, unless}
+use Rattle.format.specs.Words.{pick, both, either, if_any, Outcome, accepted, refused, unless}
 use Rattle.format.specs.Floor.{div_f, mod_f}
 use Rattle.format.specs.Octets.{Octets, signed_octets, signed_of, unsigned_octets, unsigned_at}
 use Rattle.format.specs.Values.{Kind, Date, DateTz, Time, TimeTz, Datetime, DatetimeTz, dated, timed, zoned, Value, time_in_range, offset_in_range, in_range, Settings, Form, text, compact, extended}
@@ -17,7 +17,7 @@ use Rattle.format.specs.Digits.{digits_of}
 use Rattle.format.specs.Fields.{Field, digits, after, sign, absent, when, width, put, widths, puts, fit, says}
 use Rattle.format.specs.Text.{layout, text_length, text_numbers, text_image}
 use Rattle.format.specs.TextReading.{named, minus_zero, numbers_in_range, text_value, read_fields, read_text}
-use Rattle.format.specs.Compact.{number, number_octets, compact_image, start}
+use Rattle.format.specs.Compact.{number, compact_image, start}
 use Rattle.format.specs.CompactReading.{longest_plain, longest, shortest, carried_in, counted, number_in_range, usual, compact_value, read_number, read_compact}
 use Rattle.format.specs.Extended.{day_width, extended_image, offset_from, extended_value, read_extended}
 use Rattle.format.specs.Writing.{image_in, has_form, encode}

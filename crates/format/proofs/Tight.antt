@@ -1,6 +1,6 @@
 -- 'No redundant sign octet' says the same as 'in the fewest octets'. One octet fewer holds a number exactly where its two first octets
 -- are one octet's number, and that is where the nine first bits are equal. Assumes nothing.
-use Prim.Native.Nat.{ℕ, suc, ◌+◌, ◌-◌, ◌*◌, ◌/◌, ◌^◌, ◌<◌, ◌≤◌}
+use Prim.Native.Nat.{ℕ, suc, ◌+◌, ◌-◌, ◌*◌, ◌^◌, ◌<◌, ◌≤◌}
 use native.Mathlib.Nat.{le_antisymm, le_refl, lt_of_lt_of_le, lt_of_not-le}
 use native.Mathlib.Omega.{arith}
 use mathlib.Core.Path.{◌≡◌, refl, sym, ◌∙◌, ap}
@@ -12,10 +12,9 @@ use lib.Signed.{mag}
 use lib.Dec.{ltb, eqb}
 use lib.ListN.{length}
 use borrow.Author.Tests.{ltb-true, ltb-false, eq-eqb, ne_eqb}
-use Rattle.format.specs.Words.{both}
 use Rattle.format.specs.Floor.{div_f}
-use Rattle.format.specs.Octets.{Octets, half, signed_of, sign_from, push, more, fewest_octets, tight, first_nine}
-use Rattle.format.proofs.Cases.{both_false, eq_or_ne, lt_or_le}
+use Rattle.format.specs.Octets.{Octets, signed_of, sign_from, push, more, fewest_octets, tight, first_nine}
+use Rattle.format.proofs.Cases.{both_false, eq_or_ne}
 use Rattle.format.proofs.Floor.{push_neg}
 use Rattle.format.proofs.Signed.{div_more, top_fits, fits_top, signed_fits}
 use Rattle.format.proofs.Ber.{half_mono, least}

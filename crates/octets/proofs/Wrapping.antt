@@ -5,7 +5,7 @@ use native.Mathlib.Nat.{add-mod_right}
 use lib.IntN.{sub_ℕ}
 use lib.Signed.{mag}
 use mir.Facts.{to_z_pos}
-use Rattle.format.specs.Octets.{Octets, half, push, sign_from, signed_of}
+use Rattle.format.specs.Octets.{Octets, push, sign_from, signed_of}
 use Rattle.format.proofs.Cases.{lt_or_le}
 use Rattle.format.proofs.Floor.{push_neg}
 use Rattle.octets.proofs.Taking.{none_yet_lem, one_more, all_passed, passed_fits, sign_plus, sign_minus}

@@ -4,7 +4,7 @@ use borrow.Author.Tests.{eqb-false, lt-leb}
 use Rattle.format.specs.Words.{pick, both, either, accepted, refused}
 use Rattle.format.specs.Calendar.{Day}
 use Rattle.format.specs.Values.{Kind, dated, timed, zoned, Value, time_in_range, text}
-use Rattle.format.specs.Fields.{widths, fit, says}
+use Rattle.format.specs.Fields.{widths, fit}
 use Rattle.format.specs.Text.{date_row, clock_row, offset_row, layout, text_length, fraction_unit}
 use Rattle.format.specs.TextReading.{digits_found, minus_zero, clock_in_range, numbers_in_range, text_value, read_fields, read_text}
 use Rattle.format.specs.Reading.{read_in, read_as}

@@ -1,6 +1,6 @@
 -- No two different answers meet one promise: of any writer, of any reader, and of each public call, at the promise that its contract cites
 -- (specs/Calls). What an answer means can be undone, a clause for each case. Assumes nothing.
-use mathlib.Core.Path.{◌≡◌, refl, sym, ◌∙◌, ap}
+use mathlib.Core.Path.{◌≡◌, refl, sym, ◌∙◌}
 use mathlib.Core.Bool.{Bool}
 use mathlib.Core.List.{List}
 use Prim.Native.Nat.{ℕ}
@@ -27,7 +27,7 @@ use Rattle.values.specs.declared.answers.Decoded.TheVariants as D
 use Rattle.values.specs.declared.answers.Reading.{Reading}
 use Rattle.values.specs.declared.answers.Reading.TheVariants as G
 use Rattle.values.specs.Meaning.{refusal_number, form_from, settings_from, kind_from}
-use Rattle.values.specs.Answers.{written_number, written_count, decoded, reading}
+use Rattle.values.specs.Answers.{written_number, written_count, reading}
 use Rattle.values.specs.Promise.{Left, Writes, Reads}
 use Rattle.values.specs.Calls.{TimeNew, TimeEndOfDay, TimeIsEndOfDay, TimeInRange, OffsetNew, OffsetInRange}
 use Rattle.values.specs.Calls.{KindDated, KindTimed, KindZoned, ValueRestInRange, ValueInRange, RefusalNumber}

@@ -4,7 +4,6 @@ use Rattle.format.specs.Words.{refused}
 use Rattle.format.specs.EitherOr.{read_either}
 use Rattle.boundary.specs.Boundary.{reading_of}
 use Rattle.boundary.proofs.Numbered.{reading_at_lem, beyond}
-use borrow.Author.Rules.{rules}
 use Rattle.boundary.proofs.kind_in.Goals as goal
 
 pub returns-then-number-lt6 : goal.returns-then-number-lt6

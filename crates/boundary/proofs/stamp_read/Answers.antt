@@ -1,7 +1,6 @@
 -- `stamp_read` meets its contract: no such kind; or what the reader of the kind answers, as numbers. Assumes nothing.
 use Rattle.format.specs.Words.{refused}
 use Rattle.boundary.proofs.Numbered.{keeps}
-use borrow.Author.Rules.{rules}
 use Rattle.boundary.proofs.stamp_read.Goals as goal
 
 pub returns-in_default : goal.returns-in_default

@@ -1,6 +1,5 @@
 -- `stamp_write` meets its contract: what the writer of the kind leaves, as numbers. Assumes nothing.
 use mir.Facts.{to_z-of_z}
-use borrow.Author.Rules.{rules}
 use Rattle.boundary.proofs.stamp_write.Goals as goal
 
 pub returns-in-Octets : goal.returns-in-Octets

@@ -2,7 +2,6 @@
 use Rattle.format.specs.Values.{Date, DateTz, Time, TimeTz, Datetime, DatetimeTz}
 use Rattle.format.specs.Keeping.{own}
 use Rattle.boundary.proofs.Numbered.{left_owned}
-use borrow.Author.Rules.{rules}
 use Rattle.boundary.proofs.write_known.Goals as goal
 
 pub returns-in-Date : goal.returns-in-Date

@@ -5,7 +5,6 @@ use Rattle.format.proofs.Cases.{not_true, not_false}
 use Rattle.values.proofs.Writes.{refuses}
 use Rattle.boundary.specs.Boundary.{known}
 use Rattle.boundary.proofs.Numbered.{writing_at}
-use borrow.Author.Rules.{rules}
 use Rattle.boundary.proofs.write_numbered.Goals as goal
 
 pub returns-then-not-in_range : goal.returns-then-not-in_range

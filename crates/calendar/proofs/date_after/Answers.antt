@@ -6,7 +6,6 @@ use Rattle.format.proofs.Years.{years}
 use Rattle.calendar.specs.Steps.{to_january, day_count}
 use Rattle.calendar.proofs.March.{short_year}
 use Rattle.calendar.proofs.Formulas.{late_date, early_date}
-use borrow.Author.Rules.{rules}
 use Rattle.calendar.proofs.date_after.Goals as goal
 use Rattle.calendar.proofs.date_after.Goals.{Start}
 

@@ -6,7 +6,6 @@ use borrow.Author.Tests.{le-leb, lt-leb}
 use Rattle.format.specs.Words.{accepted}
 use Rattle.format.specs.Calendar.{last_number, day_asked}
 use Rattle.calendar.specs.Steps.{to_january, day_count}
-use borrow.Author.Rules.{rules}
 use Rattle.calendar.proofs.date_of.Goals as goal
 
 pub returns-then-number-gt-LAST_NUMBER : goal.returns-then-number-gt-LAST_NUMBER

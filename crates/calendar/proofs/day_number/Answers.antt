@@ -3,7 +3,6 @@ use mathlib.Core.Path.{◌≡◌, sym, ◌∙◌}
 use mathlib.Core.Bool.{true}
 use Rattle.format.specs.Calendar.{is_day, number_asked}
 use Rattle.calendar.specs.Meaning.{day_from}
-use borrow.Author.Rules.{rules}
 use Rattle.calendar.proofs.day_number.Goals as goal
 use Rattle.calendar.proofs.day_number.Goals.{Then-in_range}
 

@@ -8,7 +8,6 @@ use Rattle.calendar.specs.Meaning.{day_from}
 use Rattle.calendar.specs.Steps.{to_january}
 use Rattle.calendar.proofs.March.{year_high}
 use Rattle.calendar.proofs.Formulas.{by_march}
-use borrow.Author.Rules.{rules}
 use Rattle.calendar.proofs.number_of.Goals as goal
 use Rattle.calendar.proofs.number_of.Goals.{After-days_before-2}
 

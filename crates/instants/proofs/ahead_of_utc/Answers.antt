@@ -1,5 +1,5 @@
 -- `ahead_of_utc` meets its contract: an offset in range in microseconds fits. Assumes nothing.
-use Rattle.std.proofs.Common.{◌≡◌, ℤ, pos, ◌*ℤ◌, arith, to_z-of_z, w32, w64, SFits, to_z, of_z, rules}
+use Rattle.std.proofs.Common.{◌≡◌, pos, ◌*ℤ◌, arith, to_z-of_z, w32, w64, SFits, to_z, of_z, rules}
 use borrow.Author.Rules.{sfits_of}
 use Rattle.moments.specs.Instant.{ahead}
 use Rattle.instants.proofs.Sizes.{ahead_small}

@@ -1,8 +1,8 @@
 -- `instant_of` meets its contract: its tests are those of `inRange`, and of a value in range the difference fits. Assumes nothing.
-use Rattle.std.proofs.Common.{◌≡◌, true, ◌-ℤ◌, sym, ap, ◌∙◌, arith, to_z-of_z, w64, SFits, to_z, of_z, rules}
+use Rattle.std.proofs.Common.{◌≡◌, true, ◌-ℤ◌, sym, ap, ◌∙◌, arith, to_z-of_z, w64, SFits, to_z, of_z}
 use borrow.Author.Rules.{sfits_of}
 use Rattle.format.specs.Calendar.{is_day, day_number}
-use Rattle.format.specs.Values.{DatetimeTz, Value, time_in_range, offset_in_range, in_range}
+use Rattle.format.specs.Values.{DatetimeTz, time_in_range, offset_in_range, in_range}
 use Rattle.format.proofs.Cases.{not_true, not_false, both_false}
 use Rattle.format.proofs.Dates.{number_small}
 use Rattle.calendar.specs.Meaning.{day_from, number_answered}

@@ -1,5 +1,5 @@
 -- `restate` meets its contract: a stamp that stays in its month is restated there; any other is that of its instant. Assumes nothing.
-use Rattle.std.proofs.Common.{sym, ap, ◌∙◌, rules}
+use Rattle.std.proofs.Common.{sym, ap, ◌∙◌}
 use Rattle.format.specs.Values.{DatetimeTz, in_range}
 use Rattle.format.proofs.Cases.{failed}
 use Rattle.values.specs.Meaning.{datetime_tz_value}

@@ -1,5 +1,5 @@
 -- `stamp_of` meets its contract: a local reading is beyond the years where the calendar knows no such day. Assumes nothing.
-use Rattle.std.proofs.Common.{sym, ap, ◌∙◌, rules}
+use Rattle.std.proofs.Common.{sym, ap, ◌∙◌}
 use Rattle.calendar.specs.Meaning.{day_from, day_answered}
 use Rattle.moments.specs.Instant.{stamp_of}
 use Rattle.instants.proofs.Tests.{date_known, past_years}

@@ -1,5 +1,5 @@
 -- `sum_modulo` meets its contract: the parts modulo 2^64 add up to the sum modulo 2^64. Assumes nothing.
-use Rattle.std.proofs.Common.{◌≡◌, ◌∙◌, to_z-of_z, w64, to_z, of_z, rules}
+use Rattle.std.proofs.Common.{◌≡◌, ◌∙◌, to_z-of_z, w64, to_z, of_z}
 use Rattle.instants.proofs.Modular.{modulo_sum}
 use Rattle.instants.proofs.sum_modulo.Goals as goal
 

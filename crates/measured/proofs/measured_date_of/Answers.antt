@@ -5,7 +5,6 @@ use Rattle.format.specs.Calendar.{day_asked}
 use Rattle.calendar.specs.Meaning.{day_from, day_answered}
 use Rattle.measured.specs.Measured.{date_or}
 use Rattle.measured.proofs.Asked.{asked_day}
-use borrow.Author.Rules.{rules}
 use Rattle.measured.proofs.measured_date_of.Goals as goal
 use Rattle.measured.proofs.measured_date_of.Goals.{In-Date}
 

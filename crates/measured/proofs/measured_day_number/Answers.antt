@@ -2,13 +2,11 @@
 use mathlib.Core.Path.{◌≡◌, sym, ◌∙◌, ap}
 use native.Mathlib.Omega.{arith}
 use mir.Syntax.{w32}
-use mir.Facts.{to_z-of_z}
 use Rattle.format.specs.Words.{accepted}
 use Rattle.format.specs.Calendar.{number_asked}
 use Rattle.calendar.specs.Meaning.{number_answered}
 use Rattle.measured.specs.Measured.{number_or}
 use Rattle.measured.proofs.Asked.{asked_small}
-use borrow.Author.Rules.{rules}
 use mir.Facts.{to_z_pos}
 use Rattle.measured.proofs.measured_day_number.Goals as goal
 use Rattle.measured.proofs.measured_day_number.Goals.{In-Day}

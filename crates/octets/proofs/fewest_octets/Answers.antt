@@ -1,5 +1,5 @@
 -- `octets::fewest_octets` meets its contract: the count by leading zeros is the least. Assumes nothing.
-use Rattle.std.proofs.Common.{ap, ◌∙◌, arith, to_z-of_z, rules}
+use Rattle.std.proofs.Common.{ap, ◌∙◌, arith, to_z-of_z}
 use lib.Signed.{mag}
 use lib.Bits.{bit_or}
 use lib.Count.{leading_le}

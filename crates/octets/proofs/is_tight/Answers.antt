@@ -1,5 +1,5 @@
 -- `octets::is_tight` meets its contract: each return by how many octets there are, and by the sign of the second. Assumes nothing.
-use Rattle.std.proofs.Common.{◌+◌, arith, rules}
+use Rattle.std.proofs.Common.{◌+◌, arith}
 use Rattle.octets.proofs.Signs.{tight_one, tight_low, tight_high}
 use Rattle.octets.proofs.is_tight.Goals as goal
 

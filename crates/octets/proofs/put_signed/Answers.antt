@@ -1,7 +1,6 @@
 -- `octets::put_signed` meets its contract. The loop's invariant: what is still to be stored, stored, gives what the contract says;
 -- `v` is the number's bits. The measure is how many octets are left. Assumes nothing.
-use Rattle.std.proofs.Common.{◌≡◌, ◌≤◌, length, refl, ◌∙◌, arith, length-set, to_z-of_z, w64, to_z, of_z, rules}
-use lib.Seq.{sets}
+use Rattle.std.proofs.Common.{◌≡◌, refl, ◌∙◌, arith, length-set, to_z-of_z, w64, to_z, of_z}
 use Rattle.format.specs.Floor.{div_f}
 use Rattle.format.specs.Octets.{signed_octets}
 use Rattle.format.proofs.Storing.{signed_turn}

@@ -1,10 +1,8 @@
 -- `octets::put_signed` meets its contract. The loop's invariant: what is still to be stored, stored, gives what the contract says;
 -- `v` is the number's bits. The measure is how many octets are left. Assumes nothing.
-use Rattle.std.proofs.Common.{◌≡◌, ◌≤◌, length, refl, ◌∙◌, arith, length-set, to_z-of_z, w64, to_z, of_z, rules}
+use Rattle.std.proofs.Common.{◌≡◌, ◌≤◌, length}
 use lib.Seq.{sets}
-use Rattle.format.specs.Floor.{div_f}
 use Rattle.format.specs.Octets.{signed_octets}
-use Rattle.format.proofs.Storing.{signed_turn}
 use Rattle.octets.proofs.put_signed.Given as goal
 
 abbrev pub invariant-loop-i : goal.invariant-loop-i

@@ -1,6 +1,6 @@
 -- `octets::take_signed` meets its contract. The loop's invariant: `v` is the bits of the number of the octets passed. Before each
 -- turn they are seven at most, so that there is room for one more. The measure is how many octets are left. Assumes nothing.
-use Rattle.std.proofs.Common.{◌≡◌, ◌-◌, ◌^◌, ◌<◌, ◌≤◌, ℤ, sym, ap, ◌∙◌, arith, to_z-of_z, w64, to_z, of_z, rules}
+use Rattle.std.proofs.Common.{◌≡◌, ◌^◌, ◌<◌, sym, ◌∙◌, arith, to_z-of_z, w64}
 use lib.Signed.{mag}
 use Rattle.format.specs.Octets.{Octets}
 use Rattle.octets.proofs.Taking.{so_far, none_yet_lem, one_more, all_passed, passed_fits}

@@ -1,5 +1,5 @@
 -- `octets::with_octet` meets its contract: what is required leaves room for the octet. Assumes nothing.
-use Rattle.std.proofs.Common.{◌≡◌, pos, ◌+ℤ◌, ◌*ℤ◌, ◌∙◌, arith, to_z-of_z, w64, to_z, of_z, rules}
+use Rattle.std.proofs.Common.{◌≡◌, pos, ◌+ℤ◌, ◌*ℤ◌, ◌∙◌, arith, to_z-of_z, w64, to_z, of_z}
 use mir.Facts.{to_z_pos}
 use mir.Val.{SFits}
 use Rattle.format.specs.Octets.{push}

@@ -1,5 +1,5 @@
 -- `octets::without_last` meets its contract: what is divided is 256 times the floor. Assumes nothing.
-use Rattle.std.proofs.Common.{◌∙◌, lit<, to_z-of_z}
+use Rattle.std.proofs.Common.{◌∙◌, to_z-of_z}
 use Rattle.octets.proofs.Integers.{quot_cleared, quot_fits}
 use Rattle.octets.proofs.without_last.Goals as goal
 

@@ -8,7 +8,6 @@ use Rattle.schedule.specs.declared.walk.Walk.TheVariants as W
 use Rattle.schedule.specs.Steps.{HeaderRead, Walks}
 use Rattle.schedule.proofs.Endings.{end_bad_header}
 use Rattle.schedule.proofs.Answers.{read_ended, read_faulty}
-use borrow.Author.Rules.{rules}
 use Rattle.schedule.proofs.read.Goals as goal
 
 pub returns-in_default : goal.returns-in_default

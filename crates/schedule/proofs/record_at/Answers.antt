@@ -12,7 +12,6 @@ use Rattle.schedule.specs.declared.walk.Walk.TheVariants as W
 use Rattle.schedule.specs.Steps.{Says, HeaderRead, Walks}
 use Rattle.schedule.proofs.Endings.{end_bad_header}
 use Rattle.schedule.proofs.Answers.{ends_by, found_there, found_not, found_none, found_faulty}
-use borrow.Author.Rules.{rules}
 use Rattle.schedule.proofs.record_at.Goals as goal
 use Rattle.schedule.proofs.record_at.Goals.{In-Ended, In-Good}
 

@@ -1,6 +1,5 @@
 -- `hand_asked` meets its contract: the five parts are stored, or nothing is. Assumes nothing.
 use mathlib.Core.Path.{refl}
-use borrow.Author.Rules.{rules}
 use Rattle.boundary.proofs.files.hand_asked.Goals as goal
 
 pub put_held-requires : goal.put_held-requires

@@ -1,6 +1,5 @@
 -- `hand_record` meets its contract: the five parts are stored, or nothing is. Assumes nothing.
 use mathlib.Core.Path.{refl}
-use borrow.Author.Rules.{rules}
 use Rattle.boundary.proofs.files.hand_record.Goals as goal
 
 pub put_record-requires : goal.put_record-requires

@@ -1,5 +1,4 @@
 -- `put_record` meets its contract: each cast keeps its number. Assumes nothing.
-use native.Mathlib.Omega.{arith}
 use mir.Syntax.{w64}
 use mir.Facts.{to_z-of_z}
 use Rattle.boundary.specs.Files.{record_numbers}

@@ -2,7 +2,6 @@
 use mathlib.Core.Path.{sym, ap, ◌∙◌}
 use Rattle.schedule.specs.Meaning as schedule
 use Rattle.boundary.specs.Files.{full_number, full_count, full_place}
-use borrow.Author.Rules.{rules}
 use Rattle.boundary.proofs.files.stamp_schedule_read.Goals as goal
 
 pub returns-in-Records : goal.returns-in-Records

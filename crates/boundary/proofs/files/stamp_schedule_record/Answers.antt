@@ -1,7 +1,6 @@
 -- `stamp_schedule_record` meets its contract: what `record_at` answers, handed over. Assumes nothing.
 use native.Mathlib.Omega.{arith}
 use Rattle.boundary.proofs.InWords.{asked_in_words_lem}
-use borrow.Author.Rules.{rules}
 use Rattle.boundary.proofs.files.stamp_schedule_record.Goals as goal
 
 pub hand_record-requires : goal.hand_record-requires

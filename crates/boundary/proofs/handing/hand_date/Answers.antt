@@ -4,7 +4,6 @@ use native.Mathlib.Omega.{arith}
 use Rattle.format.specs.Values.{Date}
 use Rattle.values.specs.Answers.{reading}
 use Rattle.boundary.proofs.Parts.{no_other}
-use borrow.Author.Rules.{rules}
 use borrow.Enum.Refused.{opened}
 use Rattle.boundary.proofs.handing.hand_date.Goals as goal
 

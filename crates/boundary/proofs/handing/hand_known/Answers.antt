@@ -1,5 +1,4 @@
 -- `hand_known` meets its contract: what the reader of the kind hands over. Assumes nothing.
-use borrow.Author.Rules.{rules}
 use Rattle.boundary.proofs.handing.hand_known.Goals as goal
 
 pub returns-in-Date : goal.returns-in-Date

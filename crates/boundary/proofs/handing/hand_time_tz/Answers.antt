@@ -4,7 +4,6 @@ use native.Mathlib.Omega.{arith}
 use Rattle.format.specs.Values.{TimeTz}
 use Rattle.values.specs.Answers.{reading}
 use Rattle.boundary.proofs.Parts.{no_other, in_day_lem}
-use borrow.Author.Rules.{rules}
 use borrow.Enum.Refused.{opened}
 use Rattle.boundary.proofs.handing.hand_time_tz.Goals as goal
 

@@ -1,5 +1,4 @@
 -- `put_parts` meets its contract: the eight numbers of each form. Assumes nothing.
-use borrow.Author.Rules.{rules}
 use Rattle.boundary.proofs.handing.put_parts.Goals as goal
 
 pub returns-in-Text : goal.returns-in-Text

@@ -1,6 +1,5 @@
 -- `hand_stamp` meets its contract: the five parts are stored, or nothing is. Assumes nothing.
 use mathlib.Core.Path.{refl}
-use borrow.Author.Rules.{rules}
 use Rattle.boundary.proofs.utc.hand_stamp.Goals as goal
 
 pub put_stamp-requires : goal.put_stamp-requires

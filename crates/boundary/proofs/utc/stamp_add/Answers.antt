@@ -1,7 +1,6 @@
 -- `stamp_add` meets its contract: what `Instant::add` answers, handed over. Assumes nothing.
 use mathlib.Core.Path.{◌≡◌, ◌∙◌}
 use mir.Facts.{to_z-of_z}
-use borrow.Author.Rules.{rules}
 use Rattle.moments.specs.Calls.{add}
 use Rattle.instants.specs.Meaning.{found}
 use Rattle.boundary.proofs.utc.stamp_add.Goals as goal

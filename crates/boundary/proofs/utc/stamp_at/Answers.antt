@@ -1,7 +1,6 @@
 -- `stamp_at` meets its contract: what `Instant::at` answers, handed over. Assumes nothing.
 use mathlib.Core.Path.{◌≡◌, ◌∙◌}
 use mir.Facts.{to_z-of_z}
-use borrow.Author.Rules.{rules}
 use Rattle.moments.specs.Calls.{at}
 use Rattle.instants.specs.Meaning.{stated}
 use Rattle.boundary.proofs.InDay.{at_in_day}

@@ -1,6 +1,5 @@
 -- `stamp_by_parts` meets its contract: each part in its place. Assumes nothing.
 use mir.Facts.{to_z-of_z}
-use borrow.Author.Rules.{rules}
 use Rattle.boundary.proofs.utc.stamp_by_parts.Goals as goal
 
 pub returns : goal.returns

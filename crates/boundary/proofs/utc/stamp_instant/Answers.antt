@@ -1,7 +1,6 @@
 -- `stamp_instant` meets its contract: what `instant_of` answers, handed over. Assumes nothing.
 use mathlib.Core.Path.{◌≡◌, ◌∙◌}
 use mir.Facts.{to_z-of_z}
-use borrow.Author.Rules.{rules}
 use Rattle.moments.specs.Calls.{instant}
 use Rattle.instants.specs.Meaning.{found}
 use Rattle.boundary.proofs.utc.stamp_instant.Goals as goal

@@ -1,7 +1,6 @@
 -- `stamp_restate` meets its contract: what `restate` answers, handed over. Assumes nothing.
 use mathlib.Core.Path.{◌≡◌, ◌∙◌}
 use mir.Facts.{to_z-of_z}
-use borrow.Author.Rules.{rules}
 use Rattle.moments.specs.Calls.{restate}
 use Rattle.instants.specs.Meaning.{stated}
 use Rattle.boundary.proofs.InDay.{restate_in_day}

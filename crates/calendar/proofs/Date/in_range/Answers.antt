@@ -11,7 +11,6 @@ use Rattle.format.specs.Calendar.{leap, is_day}
 use Rattle.format.proofs.Cases.{both_false}
 use Rattle.format.proofs.Dates.{no_month, is_date}
 use Rattle.calendar.proofs.Formulas.{month_long}
-use borrow.Author.Rules.{rules}
 use Rattle.calendar.proofs.Date.in_range.Goals as goal
 
 -- a month without days has no day

@@ -1,7 +1,6 @@
 -- `calendar::months::days_before` meets its contract: the line, computed for each month. Assumes nothing.
 use borrow.Author.Tests.{lt-ltb, le-ltb}
 use Rattle.calendar.proofs.Formulas.{month_start}
-use borrow.Author.Rules.{rules}
 use Rattle.calendar.proofs.months.days_before.Goals as goal
 
 pub returns-then-month-lt3 : goal.returns-then-month-lt3

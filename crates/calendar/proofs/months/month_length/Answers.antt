@@ -1,7 +1,6 @@
 -- `calendar::months::month_length` meets its contract: the formula. Assumes nothing.
 use borrow.Author.Tests.{eq-eqb, ne_eqb}
 use Rattle.calendar.proofs.Formulas.{month_length_lem}
-use borrow.Author.Rules.{rules}
 use Rattle.calendar.proofs.months.month_length.Goals as goal
 
 pub returns-then-month-eq2 : goal.returns-then-month-eq2

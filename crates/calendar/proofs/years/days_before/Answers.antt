@@ -2,7 +2,6 @@
 use native.Mathlib.Omega.{arith}
 use Rattle.format.specs.Calendar.{year_start}
 use Rattle.calendar.proofs.March.{by_formula}
-use borrow.Author.Rules.{rules}
 use Rattle.calendar.proofs.years.days_before.Goals as goal
 
 pub overflow_add-result : goal.overflow_add-result

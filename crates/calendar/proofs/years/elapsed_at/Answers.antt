@@ -1,7 +1,6 @@
 -- `calendar::years::elapsed_at` meets its contract: both quotients by one product. Assumes nothing.
 use mathlib.Core.Path.{refl}
 use Rattle.calendar.proofs.March.{elapsed}
-use borrow.Author.Rules.{rules}
 use Rattle.calendar.proofs.years.elapsed_at.Goals as goal
 
 pub returns : goal.returns

@@ -1,7 +1,6 @@
 -- `calendar::years::of_month` meets its contract: its test is that of `march_year`. Assumes nothing.
 use borrow.Author.Tests.{lt-ltb, le-ltb}
 use Rattle.calendar.specs.Steps.{march_year}
-use borrow.Author.Rules.{rules}
 use Rattle.calendar.proofs.years.of_month.Goals as goal
 
 pub returns-then-month-lt3 : goal.returns-then-month-lt3

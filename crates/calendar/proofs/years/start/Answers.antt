@@ -1,7 +1,6 @@
 -- `calendar::years::start` meets its contract: it is 01's formula. Assumes nothing.
 use native.Mathlib.Omega.{arith}
 use Rattle.format.specs.Calendar.{year_start}
-use borrow.Author.Rules.{rules}
 use Rattle.calendar.proofs.years.start.Goals as goal
 
 pub returns : goal.returns

@@ -1,5 +1,4 @@
 -- `behind_needed` meets its contract, field by field. Assumes nothing.
-use borrow.Author.Rules.{rules}
 use mathlib.Core.Path.{◌≡◌, refl, ◌∙◌, ap}
 use mathlib.Core.Bool.{not}
 use mir.Syntax.{w32}

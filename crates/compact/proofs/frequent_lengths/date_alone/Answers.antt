@@ -1,5 +1,4 @@
 -- `date_alone` meets its contract: by the length, the number and the test of it are those of all octets. Assumes nothing.
-use borrow.Author.Rules.{rules}
 use native.Mathlib.Omega.{arith}
 use Rattle.compact.proofs.Seeing.{sees_alone}
 use Rattle.compact.proofs.frequent_lengths.date_alone.Goals as goal

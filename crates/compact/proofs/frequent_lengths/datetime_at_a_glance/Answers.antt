@@ -1,5 +1,4 @@
 -- `datetime_at_a_glance` meets its contract: by the length, the number and the test of it are those of the octets behind the offset. Assumes nothing.
-use borrow.Author.Rules.{rules}
 use mathlib.Core.Path.{refl, sym, ◌∙◌}
 use native.Mathlib.Omega.{arith}
 use Rattle.format.specs.Values.{DatetimeTz}

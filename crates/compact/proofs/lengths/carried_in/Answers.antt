@@ -2,7 +2,6 @@
 use mathlib.Core.Path.{sym, ◌∙◌}
 use Rattle.format.specs.CompactReading.{carried_in}
 use Rattle.format.proofs.Cases.{not_true, not_false}
-use borrow.Author.Rules.{rules}
 use Rattle.compact.proofs.lengths.carried_in.Goals as goal
 
 pub returns-then-not-zoned : goal.returns-then-not-zoned

@@ -3,7 +3,6 @@ use native.Mathlib.Omega.{arith}
 use borrow.Author.Tests.{le-leb, lt-leb}
 use Rattle.format.specs.CompactReading.{shortest}
 use Rattle.values.specs.Meaning.{kind_from}
-use borrow.Author.Rules.{rules}
 use Rattle.compact.proofs.lengths.has_length.Goals as goal
 
 pub returns-then-octets-shortest : goal.returns-then-octets-shortest

@@ -2,7 +2,6 @@
 use mathlib.Core.Path.{sym, ◌∙◌}
 use Rattle.format.specs.CompactReading.{longest_plain}
 use Rattle.format.proofs.Cases.{not_true, not_false}
-use borrow.Author.Rules.{rules}
 use Rattle.compact.proofs.lengths.longest_plain.Goals as goal
 
 pub returns-then-not-dated : goal.returns-then-not-dated

@@ -4,7 +4,6 @@ use Rattle.format.specs.Values.{zoned}
 use Rattle.format.specs.CompactReading.{shortest}
 use Rattle.format.proofs.Cases.{both_false, not_true, not_false}
 use Rattle.values.specs.Meaning.{kind_from}
-use borrow.Author.Rules.{rules}
 use Rattle.compact.proofs.lengths.shortest.Goals as goal
 
 pub returns-then-timed : goal.returns-then-timed

@@ -2,7 +2,6 @@
 use mathlib.Core.Path.{sym, ◌∙◌}
 use Rattle.format.specs.Compact.{padded_to}
 use Rattle.format.proofs.Cases.{not_true, not_false}
-use borrow.Author.Rules.{rules}
 use Rattle.compact.proofs.limits.padded_to.Goals as goal
 
 pub returns-then-not-front : goal.returns-then-not-front

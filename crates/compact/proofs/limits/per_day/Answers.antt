@@ -1,7 +1,6 @@
 -- `per_day` meets its contract: by the flag. Assumes nothing.
 use mathlib.Core.Path.{sym, ◌∙◌}
 use Rattle.format.specs.Compact.{per_day}
-use borrow.Author.Rules.{rules}
 use Rattle.compact.proofs.limits.per_day.Goals as goal
 
 pub returns-then-timed : goal.returns-then-timed

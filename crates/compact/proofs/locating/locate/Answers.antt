@@ -1,5 +1,4 @@
 -- `locate` meets its contract: the length first, then what was taken. Assumes nothing.
-use borrow.Author.Rules.{rules}
 use mathlib.Core.Path.{sym, ◌∙◌, ap}
 use Rattle.format.specs.Values.{DatetimeTz}
 use Rattle.format.proofs.Cases.{not_true, not_false}

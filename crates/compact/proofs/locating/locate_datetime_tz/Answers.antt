@@ -1,5 +1,4 @@
 -- `locate_datetime_tz` meets its contract: what was seen at a glance is what was taken; of a rare length, what `locate` says. Assumes nothing.
-use borrow.Author.Rules.{rules}
 use mathlib.Core.Path.{refl, ◌∙◌, ap}
 use Rattle.format.specs.Values.{DatetimeTz}
 use Rattle.values.specs.Answers.{local_in}

@@ -1,5 +1,4 @@
 -- `put_days` meets its contract: by its length, the number's octets; else those of any length. Assumes nothing.
-use borrow.Author.Rules.{rules}
 use mathlib.Core.Path.{◌∙◌}
 use mir.Facts.{to_z-of_z}
 use Rattle.compact.proofs.put.put_days.Goals as goal

@@ -1,5 +1,4 @@
 -- `put_offset` meets its contract: the two octets, or none. Assumes nothing.
-use borrow.Author.Rules.{rules}
 use mathlib.Core.Path.{◌≡◌, ◌∙◌}
 use mir.Syntax.{w32, w64}
 use mir.Val.{to_z, of_z}

@@ -1,5 +1,4 @@
 -- `answer` meets its contract: the two tests in the order of their numbers, then the value. Assumes nothing.
-use borrow.Author.Rules.{rules}
 use mathlib.Core.Path.{sym, ◌∙◌}
 use Rattle.format.proofs.Cases.{not_true, not_false}
 use Rattle.compact.specs.Meaning.{read_taken}

@@ -1,5 +1,4 @@
 -- `read` meets its contract: the length first, then what was taken. Assumes nothing.
-use borrow.Author.Rules.{rules}
 use mathlib.Core.Path.{sym, ◌∙◌}
 use Rattle.format.proofs.Cases.{not_true, not_false}
 use Rattle.compact.proofs.ReadingSteps.{no_length, by_taken}

@@ -1,5 +1,4 @@
 -- `read_date_tz` meets its contract: what was seen at a glance is what was taken; of a rare length, what `read` says. Assumes nothing.
-use borrow.Author.Rules.{rules}
 use Rattle.format.specs.Values.{DateTz}
 use Rattle.compact.proofs.ReadingSteps.{by_seen}
 use Rattle.compact.proofs.readers.read_date_tz.Goals as goal

@@ -1,5 +1,4 @@
 -- `read_time` meets its contract: what was seen at a glance is what was taken; of a rare length, what `read` says. Assumes nothing.
-use borrow.Author.Rules.{rules}
 use mathlib.Core.Path.{refl}
 use native.Mathlib.Omega.{arith}
 use Rattle.format.specs.Values.{Time}

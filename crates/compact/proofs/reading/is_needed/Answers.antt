@@ -3,7 +3,6 @@ use mathlib.Core.Path.{sym, ◌∙◌, ap}
 use mathlib.Core.Bool.{not}
 use Rattle.format.proofs.Cases.{not_true, not_false}
 use Rattle.compact.proofs.Bits.{bits_zero}
-use borrow.Author.Rules.{rules}
 use Rattle.compact.proofs.reading.is_needed.Goals as goal
 
 pub returns-then-not-front : goal.returns-then-not-front

@@ -5,7 +5,6 @@ use lib.ListN.{length, drop, length-drop}
 use Rattle.format.specs.Octets.{Octets}
 use Rattle.format.proofs.Signed.{drop_octets}
 use Rattle.compact.proofs.Shortest.{padded_shortest, tight_shortest}
-use borrow.Author.Rules.{rules}
 use Rattle.compact.proofs.reading.is_shortest.Goals as goal
 
 pub returns-then-s-at : goal.returns-then-s-at

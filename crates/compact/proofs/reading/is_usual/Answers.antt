@@ -9,7 +9,6 @@ use Rattle.format.specs.Compact.{number_octets}
 use Rattle.format.specs.CompactReading.{usual}
 use Rattle.format.proofs.Cases.{not_true, not_false}
 use Rattle.values.specs.Meaning.{kind_from}
-use borrow.Author.Rules.{rules}
 use Rattle.compact.proofs.reading.is_usual.Goals as goal
 use Rattle.compact.proofs.reading.is_usual.Goals.{After-is_shortest}
 

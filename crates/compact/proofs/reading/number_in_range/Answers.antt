@@ -9,7 +9,6 @@ use Rattle.format.specs.CompactReading.{not_before, number_in_range}
 use Rattle.format.proofs.Cases.{not_true, not_false}
 use Rattle.values.specs.Meaning.{kind_from}
 use Rattle.compact.proofs.Since.{below_since, within_since}
-use borrow.Author.Rules.{rules}
 use Rattle.compact.proofs.reading.number_in_range.Goals as goal
 use Rattle.compact.proofs.reading.number_in_range.Goals.{After-least_number}
 

@@ -1,7 +1,6 @@
 -- `offset_in` meets its contract: what `signed_2` says of the first two octets. Assumes nothing.
 use mathlib.Core.Path.{◌∙◌}
 use mir.Facts.{to_z-of_z}
-use borrow.Author.Rules.{rules}
 use Rattle.compact.proofs.reading.offset_in.Goals as goal
 
 pub returns : goal.returns

@@ -12,7 +12,6 @@ use Rattle.format.specs.Octets.{signed_of}
 use Rattle.format.specs.Words.{if_any}
 use Rattle.values.specs.Meaning.{kind_from}
 use Rattle.compact.proofs.Room.{room}
-use borrow.Author.Rules.{rules}
 use Rattle.compact.proofs.reading.take.Goals as goal
 use Rattle.compact.proofs.reading.take.Goals.{After-front_octets-at, After-take_signed-number}
 

@@ -3,7 +3,6 @@ use mathlib.Core.Path.{sym, ◌∙◌, ap}
 use Rattle.calendar.specs.Meaning.{number_answered}
 use Rattle.format.proofs.Cases.{not_true, not_false}
 use Rattle.compact.proofs.InRange.{rest_out, without_date, no_such_day, with_date}
-use borrow.Author.Rules.{rules}
 use Rattle.compact.proofs.writers.day_in_range.Goals as goal
 
 pub returns-then-not-rest_in_range : goal.returns-then-not-rest_in_range

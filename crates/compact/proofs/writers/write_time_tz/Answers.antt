@@ -2,7 +2,6 @@
 use Rattle.format.specs.Values.{TimeTz}
 use Rattle.values.specs.Meaning.{value_from}
 use Rattle.compact.proofs.WritingSteps.{Made, out_of_range, asks_image, no_form, made, too_short, image_stored}
-use borrow.Author.Rules.{rules}
 use Rattle.compact.proofs.writers.write_time_tz.Goals as goal
 
 pub returns-in_default : goal.returns-in_default

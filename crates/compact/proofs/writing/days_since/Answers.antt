@@ -8,7 +8,6 @@ use mir.Val.{SFits}
 use mir.Facts.{to_z_pos, to_z-of_z}
 use Rattle.format.specs.Compact.{epoch}
 use Rattle.compact.proofs.Since.{mag_since}
-use borrow.Author.Rules.{rules}
 use Rattle.compact.proofs.writing.days_since.Goals as goal
 
 fits : (n : ℕ) → n < 2 ^ 32 → SFits w64 (pos n -ℤ pos epoch)

@@ -1,6 +1,5 @@
 -- `millis` meets its contract: by the flag. Assumes nothing.
 use mathlib.Core.Path.{sym, ◌∙◌}
-use borrow.Author.Rules.{rules}
 use Rattle.compact.proofs.writing.millis.Goals as goal
 
 pub returns-then-timed : goal.returns-then-timed

@@ -8,7 +8,7 @@ use lib.Signed.{mag}
 use mir.Syntax.{w64}
 use mir.Val.{SFits, to_z, of_z}
 use mir.Facts.{to_z-of_z, to_z_pos}
-use borrow.Author.Rules.{rules, sfits_of}
+use borrow.Author.Rules.{sfits_of}
 use Rattle.format.specs.Words.{if_any}
 use Rattle.format.specs.Values.{dated, timed}
 use Rattle.format.specs.Compact.{epoch, per_day}

@@ -4,7 +4,6 @@ use native.Mathlib.Omega.{arith}
 use mir.Facts.{to_z-of_z}
 use Rattle.format.specs.Octets.{fewest_octets}
 use Rattle.format.specs.Compact.{number_octets}
-use borrow.Author.Rules.{rules}
 use Rattle.compact.proofs.writing.octets_of.Goals as goal
 
 pub returns-then-fewest-padded : goal.returns-then-fewest-padded

@@ -1,6 +1,5 @@
 -- `head_bits` meets its contract: each arm by the kind's flag. Assumes nothing.
 use mathlib.Core.Path.{refl, sym, ◌∙◌}
-use borrow.Author.Rules.{rules}
 use Rattle.format.specs.Extended.{head_bits}
 use Rattle.extended.proofs.head.head_bits.Goals as goal
 

@@ -3,7 +3,6 @@ use native.Mathlib.Omega.{arith}
 use Rattle.values.specs.Meaning.{kind_from}
 use Rattle.format.proofs.Extended.{head_small}
 use Rattle.extended.proofs.Twelve.{any_bits_lt}
-use borrow.Author.Rules.{rules}
 use Rattle.extended.proofs.head.header.Goals as goal
 
 pub overflow_mul-result : goal.overflow_mul-result

@@ -1,6 +1,5 @@
 -- `offset_of` meets its contract: twelve bits with half their range added and taken off again. Assumes nothing.
 use Rattle.extended.proofs.Twelve.{less_half_fits, offset_again}
-use borrow.Author.Rules.{rules}
 use Rattle.extended.proofs.head.offset_of.Goals as goal
 
 pub overflow_sub-above : goal.overflow_sub-above

@@ -2,7 +2,6 @@
 use native.Mathlib.Omega.{arith}
 use Rattle.format.specs.Octets.{Octets}
 use Rattle.extended.proofs.Places.{day_above}
-use borrow.Author.Rules.{rules}
 use Rattle.extended.proofs.readers.day_in.Goals as goal
 
 pub returns : goal.returns

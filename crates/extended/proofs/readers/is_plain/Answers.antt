@@ -2,7 +2,6 @@
 use native.Mathlib.Omega.{arith}
 use Rattle.format.specs.Octets.{Octets}
 use Rattle.extended.proofs.Places.{plain_octets}
-use borrow.Author.Rules.{rules}
 use Rattle.extended.proofs.readers.is_plain.Goals as goal
 
 pub overflow_cast-result : goal.overflow_cast-result

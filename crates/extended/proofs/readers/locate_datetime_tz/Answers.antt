@@ -10,7 +10,6 @@ use Rattle.format.specs.Octets.{unsigned_at}
 use Rattle.format.proofs.Cases.{not_true, not_false}
 use Rattle.values.specs.Answers.{local_in}
 use Rattle.extended.proofs.Coming.{Stands, with_day, wrong_length, wrong_offset, wrong_time, wrong_day, located_there}
-use borrow.Author.Rules.{rules}
 use Rattle.extended.proofs.readers.locate_datetime_tz.Goals as goal
 use Rattle.extended.proofs.readers.locate_datetime_tz.Goals.{Else-not-in_range-2}
 

@@ -2,7 +2,6 @@
 use native.Mathlib.Omega.{arith}
 use Rattle.format.specs.Octets.{Octets}
 use Rattle.extended.proofs.Places.{header_is}
-use borrow.Author.Rules.{rules}
 use Rattle.extended.proofs.readers.offset_in.Goals as goal
 
 pub overflow_cast-header : goal.overflow_cast-header

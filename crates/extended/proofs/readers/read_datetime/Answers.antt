@@ -11,7 +11,6 @@ use Rattle.format.specs.Extended.{head_bits}
 use Rattle.format.proofs.Cases.{not_true, not_false}
 use Rattle.extended.proofs.Coming.{Stands, with_day, no_offset, no_offset_fits, wrong_length, wrong_octet, wrong_time, wrong_day, found}
 use Rattle.extended.proofs.Days.{day_in_range, day_is, no_such_number}
-use borrow.Author.Rules.{rules}
 use Rattle.extended.proofs.readers.read_datetime.Goals as goal
 use Rattle.extended.proofs.readers.read_datetime.Goals.{Else-not-is_plain}
 

@@ -7,7 +7,6 @@ use Rattle.format.specs.Octets.{unsigned_at}
 use Rattle.format.proofs.Cases.{not_true, not_false}
 use Rattle.extended.proofs.Coming.{Stands, with_day, wrong_length, wrong_offset, wrong_time, wrong_day, found}
 use Rattle.extended.proofs.Days.{day_in_range, day_is, no_such_number}
-use borrow.Author.Rules.{rules}
 use Rattle.extended.proofs.readers.read_datetime_tz.Goals as goal
 
 -- where the parts stand

@@ -10,7 +10,6 @@ use Rattle.format.specs.Octets.{unsigned_at}
 use Rattle.format.specs.Extended.{head_bits}
 use Rattle.format.proofs.Cases.{not_true, not_false}
 use Rattle.extended.proofs.Coming.{Stands, without_day, no_offset, no_offset_fits, wrong_length, wrong_octet, wrong_time, found}
-use borrow.Author.Rules.{rules}
 use Rattle.extended.proofs.readers.read_time.Goals as goal
 use Rattle.extended.proofs.readers.read_time.Goals.{Else-not-is_plain}
 

@@ -6,7 +6,6 @@ use Rattle.format.specs.Values.{TimeTz}
 use Rattle.format.specs.Octets.{unsigned_at}
 use Rattle.format.proofs.Cases.{not_true, not_false}
 use Rattle.extended.proofs.Coming.{Stands, without_day, wrong_length, wrong_offset, wrong_time, found}
-use borrow.Author.Rules.{rules}
 use Rattle.extended.proofs.readers.read_time_tz.Goals as goal
 
 -- where the parts stand

@@ -2,7 +2,6 @@
 use native.Mathlib.Omega.{arith}
 use Rattle.format.specs.Octets.{Octets}
 use Rattle.extended.proofs.Places.{low_small, five}
-use borrow.Author.Rules.{rules}
 use Rattle.extended.proofs.readers.time_in.Goals as goal
 
 pub overflow_cast-s : goal.overflow_cast-s

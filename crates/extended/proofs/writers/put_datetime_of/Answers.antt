@@ -3,7 +3,6 @@ use mathlib.Core.Path.{◌∙◌, ap}
 use lib.Seq.{sets}
 use Rattle.extended.proofs.Image.{then_stored}
 use Rattle.extended.proofs.Storing.{eight_octets}
-use borrow.Author.Rules.{rules}
 use Rattle.extended.proofs.writers.put_datetime_of.Goals as goal
 
 pub returns : goal.returns

@@ -1,7 +1,6 @@
 -- `put_time_of` meets its contract: the octet and the four behind the header are the five. Assumes nothing.
 use Rattle.extended.proofs.Image.{then_stored}
 use Rattle.extended.proofs.Storing.{five_stored}
-use borrow.Author.Rules.{rules}
 use Rattle.extended.proofs.writers.put_time_of.Goals as goal
 
 pub returns : goal.returns

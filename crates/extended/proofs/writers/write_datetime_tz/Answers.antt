@@ -7,7 +7,6 @@ use Rattle.values.specs.Meaning.{value_from}
 use Rattle.extended.proofs.Days.{is_day_lem, number_is, number_fits_lem, no_such_day}
 use Rattle.extended.proofs.Image.{image_dated}
 use Rattle.extended.proofs.Storing.{day_outside, time_outside, offset_outside, micros_fit, ten, no_room, wrote}
-use borrow.Author.Rules.{rules}
 use Rattle.extended.proofs.writers.write_datetime_tz.Goals as goal
 
 pub returns-then-not-in_range : goal.returns-then-not-in_range

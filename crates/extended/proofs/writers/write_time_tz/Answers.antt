@@ -5,7 +5,6 @@ use Rattle.format.proofs.Cases.{not_true, not_false}
 use Rattle.values.specs.Meaning.{value_from}
 use Rattle.extended.proofs.Image.{image_undated}
 use Rattle.extended.proofs.Storing.{time_outside, offset_outside, seven, no_room, wrote}
-use borrow.Author.Rules.{rules}
 use Rattle.extended.proofs.writers.write_time_tz.Goals as goal
 
 pub returns-then-not-in_range : goal.returns-then-not-in_range

@@ -1,5 +1,5 @@
 -- `Instant::no_stamp` meets its contract: its test is `is_instant`. Assumes nothing.
-use Rattle.std.proofs.Common.{sym, ◌∙◌, rules}
+use Rattle.std.proofs.Common.{sym, ◌∙◌}
 use Rattle.instants.proofs.Instant.no_stamp.Goals as goal
 
 pub returns-then-in_range : goal.returns-then-in_range

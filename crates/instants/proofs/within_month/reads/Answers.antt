@@ -1,7 +1,7 @@
 -- `reads` meets its contract: neither offset is a whole day, so that of two days something is left. Assumes nothing.
 -- ---- the numbers: a stamp's microseconds and two days; less one offset; and the other added
 -- ---- what the code has of them
-use Rattle.std.proofs.Common.{◌≡◌, ℕ, ◌+◌, ◌≤◌, ℤ, pos, ◌+ℤ◌, ◌-ℤ◌, neg_ℤ, nat_abs, sym, ap, ◌∙◌, arith, to_z-of_z, w64, SFits, to_z, of_z, rules}
+use Rattle.std.proofs.Common.{◌≡◌, ℕ, ◌+◌, ◌≤◌, ℤ, pos, ◌+ℤ◌, ◌-ℤ◌, neg_ℤ, nat_abs, sym, ap, ◌∙◌, arith, to_z-of_z, w64, SFits, to_z, of_z}
 use mir.Facts.{to_z_pos}
 use borrow.Author.Rules.{sfits_of}
 use Rattle.moments.specs.Instant.{ahead}

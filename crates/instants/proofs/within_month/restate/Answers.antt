@@ -1,6 +1,6 @@
 -- `within_month::restate` meets its contract: where the day stays in its month, the law of clocks (`stays`); elsewhere it says nothing. Assumes nothing.
 -- ---- what the tests tell
-use Rattle.std.proofs.Common.{◌≡◌, ◌-◌, ◌*◌, ◌/◌, ◌%◌, true, sym, ◌∙◌, arith, rules}
+use Rattle.std.proofs.Common.{◌≡◌, ◌-◌, ◌*◌, ◌/◌, ◌%◌, true, sym, ◌∙◌, arith}
 use Rattle.format.specs.Calendar.{is_day, leap}
 use Rattle.format.specs.Values.{DatetimeTz, time_in_range, offset_in_range, in_range}
 use Rattle.format.proofs.Cases.{not_false}

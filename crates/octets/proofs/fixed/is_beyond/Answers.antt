@@ -1,5 +1,5 @@
 -- `octets::is_beyond` meets its contract: below -half by the first test, else from half on. Assumes nothing.
-use Rattle.std.proofs.Common.{◌≡◌, pos, ◌-ℤ◌, nat_abs, sym, ap, ◌∙◌, arith, to_z-of_z, w64, SFits, to_z, of_z}
+use Rattle.std.proofs.Common.{◌≡◌, pos, nat_abs, sym, ◌∙◌, to_z-of_z, w64, SFits, to_z, of_z}
 use Rattle.octets.proofs.Integers.{minus_fits, below_minus, not_below_minus}
 use Rattle.octets.proofs.fixed.is_beyond.Goals as goal
 use Rattle.octets.proofs.fixed.is_beyond.Goals.{Start}

@@ -1,5 +1,5 @@
 -- `octets::low_word` meets its contract: the low 32 bits are the remainder. Assumes nothing.
-use Rattle.std.proofs.Common.{nat_abs, ap, arith, w32}
+use Rattle.std.proofs.Common.{nat_abs, ap, w32}
 use Rattle.format.specs.Floor.{mod_f}
 use Rattle.octets.proofs.Integers.{low_word, mod_lt_word, unsigned}
 use Rattle.octets.proofs.fixed.low_word.Goals as goal

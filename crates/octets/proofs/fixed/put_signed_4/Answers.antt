@@ -1,5 +1,5 @@
 -- `octets::put_signed_4` meets its contract: the last four octets are those of the low word. Assumes nothing.
-use Rattle.std.proofs.Common.{◌∙◌, to_z-of_z, rules}
+use Rattle.std.proofs.Common.{◌∙◌, to_z-of_z}
 use Rattle.octets.proofs.Word.{octets_4}
 use Rattle.octets.proofs.fixed.put_signed_4.Goals as goal
 

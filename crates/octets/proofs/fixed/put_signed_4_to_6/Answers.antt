@@ -1,6 +1,6 @@
 -- `octets::put_signed_4_to_6` meets its contract: of the last two octets, those that are among the first four are stored once more.
 -- Assumes nothing.
-use Rattle.std.proofs.Common.{◌≡◌, ℕ, ◌+◌, ◌-◌, ◌^◌, ℤ, ap, ◌∙◌, arith, to_z-of_z, w64, to_z, of_z, rules}
+use Rattle.std.proofs.Common.{◌≡◌, ◌+◌, ◌-◌, ◌^◌, ℤ, ap, ◌∙◌, arith, to_z-of_z, w64, to_z, of_z}
 use Rattle.format.specs.Floor.{div_f}
 use Rattle.octets.proofs.Behind.{stored_over}
 use Rattle.octets.proofs.fixed.put_signed_4_to_6.Goals as goal

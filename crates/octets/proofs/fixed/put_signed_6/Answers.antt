@@ -1,5 +1,5 @@
 -- `octets::put_signed_6` meets its contract: the last octet behind those of the number without it. Assumes nothing.
-use Rattle.std.proofs.Common.{◌≡◌, ℤ, ap, ◌∙◌, to_z-of_z, w64, to_z, of_z, rules}
+use Rattle.std.proofs.Common.{◌≡◌, ℤ, ap, ◌∙◌, to_z-of_z, w64, to_z, of_z}
 use Rattle.format.specs.Floor.{div_f}
 use Rattle.octets.proofs.Behind.{stored_behind}
 use Rattle.octets.proofs.fixed.put_signed_6.Goals as goal

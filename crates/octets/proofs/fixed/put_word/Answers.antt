@@ -1,5 +1,5 @@
 -- `octets::put_word` meets its contract: the octets of the word, from the first on. Assumes nothing.
-use Rattle.std.proofs.Common.{◌≡◌, suc, ◌+◌, ◌/◌, ◌%◌, arith, length-set, rules}
+use Rattle.std.proofs.Common.{◌≡◌, suc, ◌+◌, ◌/◌, ◌%◌, arith, length-set}
 use Rattle.format.specs.Octets.{unsigned_octets}
 use Rattle.octets.proofs.fixed.put_word.Goals as goal
 

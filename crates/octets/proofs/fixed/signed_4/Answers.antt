@@ -1,7 +1,6 @@
 -- `octets::signed_4` meets its contract: the word fits, and half of all words added and taken off makes it the number. Assumes nothing.
-use Rattle.std.proofs.Common.{◌≡◌, ◌+◌, ◌^◌, ◌<◌, get_or, take, drop, pos, ◌-ℤ◌, ◌∙◌, arith, to_z-of_z, w64, to_z, rules}
+use Rattle.std.proofs.Common.{◌≡◌, ◌+◌, take, drop, pos, ◌-ℤ◌, ◌∙◌, arith, to_z-of_z, w64, to_z}
 use mir.Val.{SFits}
-use lib.Signed.{mag}
 use Rattle.format.specs.Octets.{Octets, signed_of}
 use Rattle.octets.proofs.Wrapping.{number_4, number_room}
 use Rattle.octets.proofs.fixed.signed_4.Goals as goal

@@ -1,5 +1,5 @@
 -- `octets::signed_6` meets its contract: the octets before the last leave room for it. Assumes nothing.
-use Rattle.std.proofs.Common.{arith, rules}
+use Rattle.std.proofs.Common.{arith}
 use Rattle.octets.proofs.Wrapping.{more_room, more_read}
 use Rattle.octets.proofs.fixed.signed_6.Goals as goal
 

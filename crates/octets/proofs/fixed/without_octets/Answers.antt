@@ -1,5 +1,5 @@
 -- `octets::without_octets` meets its contract: a shift by eights is a division by a power of 256. Assumes nothing.
-use Rattle.std.proofs.Common.{◌≡◌, ◌*◌, ◌^◌, sym, ◌∙◌, to_z-of_z, rules}
+use Rattle.std.proofs.Common.{◌≡◌, ◌*◌, ◌^◌, to_z-of_z}
 use Rattle.octets.proofs.Integers.{eights, shift_floor, shift_fits}
 use Rattle.octets.proofs.fixed.without_octets.Goals as goal
 

@@ -1,5 +1,5 @@
 -- `put_low2` meets its contract: two stores, one behind the other. Assumes nothing.
-use Rattle.std.proofs.Common.{arith, length-set, rules}
+use Rattle.std.proofs.Common.{arith, length-set}
 use Rattle.octets.proofs.LowFirst.{low_two}
 use Rattle.octets.proofs.low.put_low2.Goals as goal
 

@@ -1,5 +1,5 @@
 -- `put_low4` meets its contract: two octets, and two behind them. Assumes nothing.
-use Rattle.std.proofs.Common.{◌∙◌, rules}
+use Rattle.std.proofs.Common.{◌∙◌}
 use Rattle.octets.proofs.LowFirst.{low_four}
 use Rattle.octets.proofs.low.put_low4.Goals as goal
 

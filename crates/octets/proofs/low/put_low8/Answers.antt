@@ -1,5 +1,5 @@
 -- `put_low8` meets its contract: eight stores, one behind the other. Assumes nothing.
-use Rattle.std.proofs.Common.{arith, length-set, rules}
+use Rattle.std.proofs.Common.{arith, length-set}
 use Rattle.octets.proofs.LowFirst.{low_eight}
 use Rattle.octets.proofs.low.put_low8.Goals as goal
 

@@ -1,5 +1,5 @@
 -- `take_low2` meets its contract: two octets are below 65,536. Assumes nothing.
-use Rattle.std.proofs.Common.{◌+◌, arith, rules}
+use Rattle.std.proofs.Common.{◌+◌, arith}
 use Rattle.octets.proofs.Joining.{two_loads}
 use Rattle.octets.proofs.low.take_low2.Goals as goal
 

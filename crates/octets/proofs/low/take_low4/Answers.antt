@@ -1,5 +1,5 @@
 -- `take_low4` meets its contract: two octets, and two behind them. Assumes nothing.
-use Rattle.std.proofs.Common.{arith, rules}
+use Rattle.std.proofs.Common.{arith}
 use Rattle.octets.proofs.Joining.{two_small, four_loads}
 use Rattle.octets.proofs.low.take_low4.Goals as goal
 

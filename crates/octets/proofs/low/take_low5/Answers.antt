@@ -1,5 +1,5 @@
 -- `take_low5` meets its contract: four octets, and one behind them. Assumes nothing.
-use Rattle.std.proofs.Common.{◌+◌, arith, rules}
+use Rattle.std.proofs.Common.{◌+◌, arith}
 use Rattle.octets.proofs.Joining.{four_small, five_loads}
 use Rattle.octets.proofs.low.take_low5.Goals as goal
 

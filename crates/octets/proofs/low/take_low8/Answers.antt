@@ -1,5 +1,5 @@
 -- `take_low8` meets its contract: five octets, and three behind them. Assumes nothing.
-use Rattle.std.proofs.Common.{ℕ, ◌+◌, ◌<◌, get_or, arith, rules}
+use Rattle.std.proofs.Common.{ℕ, ◌+◌, ◌<◌, get_or, arith}
 use Rattle.octets.proofs.Joining.{five_small, eight_loads}
 use Rattle.octets.proofs.low.take_low8.Goals as goal
 use Rattle.octets.proofs.low.take_low8.Goals.{After-shared_slice_known-4-1}

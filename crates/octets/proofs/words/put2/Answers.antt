@@ -1,5 +1,5 @@
 -- `put2` meets its contract: the octets turned, and stored least significant first. Assumes nothing.
-use Rattle.std.proofs.Common.{◌∙◌, arith, rules}
+use Rattle.std.proofs.Common.{◌∙◌, arith}
 use Rattle.octets.proofs.Turning.{turned_two_lem}
 use Rattle.octets.proofs.words.put2.Goals as goal
 

@@ -1,5 +1,5 @@
 -- `put4` meets its contract: the octets turned, and stored least significant first. Assumes nothing.
-use Rattle.std.proofs.Common.{◌∙◌, arith, rules}
+use Rattle.std.proofs.Common.{◌∙◌, arith}
 use Rattle.octets.proofs.Turning.{turned_four_lem}
 use Rattle.octets.proofs.words.put4.Goals as goal
 

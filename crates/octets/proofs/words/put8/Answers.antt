@@ -1,5 +1,5 @@
 -- `put8` meets its contract: each half turned, the first one low, and stored least significant first. Assumes nothing.
-use Rattle.std.proofs.Common.{◌∙◌, arith, rules}
+use Rattle.std.proofs.Common.{◌∙◌, arith}
 use Rattle.octets.proofs.Turning.{eight_stored}
 use Rattle.octets.proofs.words.put8.Goals as goal
 

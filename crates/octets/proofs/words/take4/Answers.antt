@@ -1,5 +1,5 @@
 -- `take4` meets its contract: loaded least significant first, and turned. Assumes nothing.
-use Rattle.std.proofs.Common.{◌∙◌, arith, rules}
+use Rattle.std.proofs.Common.{◌∙◌, arith}
 use Rattle.octets.proofs.Joining.{four_small}
 use Rattle.octets.proofs.Turning.{taken_four}
 use Rattle.octets.proofs.words.take4.Goals as goal

@@ -1,6 +1,5 @@
 -- `take8` meets its contract: by halves. Assumes nothing.
 use Rattle.octets.proofs.Turning.{taken_eight}
-use Rattle.std.proofs.Common.{rules}
 use Rattle.octets.proofs.words.take8.Goals as goal
 
 pub returns : goal.returns

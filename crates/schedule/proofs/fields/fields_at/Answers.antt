@@ -5,7 +5,6 @@ use mir.Facts.{to_z-of_z}
 use Rattle.format.specs.Octets.{Octets}
 use Rattle.card.specs.Records.{start_at, length_at, channel_at, correction_at}
 use Rattle.schedule.proofs.Words.{word_first, word_next, word_last}
-use borrow.Author.Rules.{rules}
 use Rattle.schedule.proofs.fields.fields_at.Goals as goal
 
 pub returns : goal.returns

@@ -4,7 +4,6 @@ use Prim.Native.Nat.{◌+◌, ◌*◌}
 use native.Mathlib.Omega.{arith}
 use Rattle.card.specs.Header.{twelve, count_of, stamp_octets, stamps_start}
 use Rattle.card.proofs.Exactly.{header_is, not_good}
-use borrow.Author.Rules.{rules}
 use Rattle.schedule.proofs.header.read.Goals as goal
 
 pub returns-then-file-lt-RECORDS : goal.returns-then-file-lt-RECORDS

@@ -1,7 +1,6 @@
 -- `chosen` meets its contract, case by case. Assumes nothing.
 use mathlib.Core.Path.{◌∙◌}
 use Rattle.schedule.proofs.Parting.{beside_refused}
-use borrow.Author.Rules.{rules}
 use Rattle.schedule.proofs.parts.chosen.Goals as goal
 
 pub returns-in-Record-manual : goal.returns-in-Record-manual

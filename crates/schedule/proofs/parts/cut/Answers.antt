@@ -4,7 +4,6 @@ use Prim.Native.Nat.{◌+◌, ◌-◌}
 use native.Mathlib.Nat.{add_comm}
 use native.Mathlib.Omega.{arith}
 use Rattle.card.proofs.Slices.{slice_length}
-use borrow.Author.Rules.{rules}
 use Rattle.schedule.proofs.parts.cut.Goals as goal
 
 pub returns : goal.returns

@@ -14,7 +14,6 @@ use Rattle.schedule.specs.Steps.{Says, HeaderRead, Walks, held_at}
 use Rattle.schedule.proofs.Endings.{end_bad_header}
 use Rattle.schedule.proofs.Finding.{records_fit, last_place_le, held_shown}
 use Rattle.schedule.proofs.Answers.{ends_by, asked_ended, asked_faulty}
-use borrow.Author.Rules.{rules}
 use Rattle.schedule.proofs.parts.held_in.Goals as goal
 
 pub returns-in_default : goal.returns-in_default

@@ -1,5 +1,4 @@
 -- `over` meets its contract: what `part_over` answers, cut out of the file that it names. Assumes nothing.
-use borrow.Author.Rules.{rules}
 use Rattle.schedule.proofs.Parting.{within_plan, within_manual, hands_plan, hands_manual}
 use Rattle.schedule.proofs.parts.over.Goals as goal
 

@@ -7,7 +7,6 @@ use Rattle.format.specs.Values.{DatetimeTz}
 use Rattle.format.specs.Reading.{read}
 use Rattle.values.specs.Answers.{located}
 use Rattle.schedule.proofs.Timing.{Told, told, told_refused}
-use borrow.Author.Rules.{rules}
 use Rattle.schedule.proofs.stamps.instant.Goals as goal
 use Rattle.schedule.proofs.stamps.instant.Goals.{In-At}
 

@@ -5,7 +5,6 @@ use Rattle.format.specs.Values.{DatetimeTz}
 use Rattle.format.specs.Extended.{head_bits}
 use Rattle.format.specs.Reading.{first_bits}
 use Rattle.stamp.proofs.Choosing.{as_compact, as_extended, as_text}
-use borrow.Author.Rules.{rules}
 use Rattle.schedule.proofs.stamps.locate.Goals as goal
 
 pub returns-then-stamp-longest : goal.returns-then-stamp-longest

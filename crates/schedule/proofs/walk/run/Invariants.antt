@@ -1,20 +1,11 @@
 -- `run` meets its contract: each turn passes one record more, and what is left comes to the same. Assumes nothing.
-use mathlib.Core.Path.{◌≡◌, refl, sym, ap, ◌∙◌}
-use mathlib.Core.Bool.{not}
-use Prim.Native.Nat.{suc, ◌+◌, ◌-◌, ◌<◌}
-use native.Mathlib.Omega.{arith}
-use mir.Syntax.{w64}
-use mir.Val.{to_z}
-use mir.Facts.{to_z-of_z}
-use borrow.Author.Rules.{rules, sfits_of}
-use Rattle.format.specs.Octets.{Octets}
+use mathlib.Core.Path.{◌≡◌}
+use Prim.Native.Nat.{◌-◌}
 use Rattle.card.specs.Header.{twelve, count_of}
 use Rattle.card.specs.Reading.{walk}
 use Rattle.card.specs.Question.{later}
-use Rattle.schedule.specs.Steps.{before_from, taken, ending}
-use Rattle.schedule.proofs.Ranges.{late, in_order_lem}
-use Rattle.schedule.proofs.Walking.{step_took, step_bad, taken_is, taken_small}
-use Rattle.schedule.proofs.Endings.{end_all, end_bad, end_stop, Far, far_front, far_on, stands_all, stands_late, turned}
+use Rattle.schedule.specs.Steps.{before_from, ending}
+use Rattle.schedule.proofs.Endings.{Far}
 use Rattle.schedule.proofs.walk.run.Given as goal
 
 abbrev pub invariant-loop-i : goal.invariant-loop-i

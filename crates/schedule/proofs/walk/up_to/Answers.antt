@@ -4,7 +4,6 @@ use mir.Syntax.{w64}
 use mir.Facts.{to_z-of_z}
 use Rattle.format.specs.Octets.{Octets}
 use Rattle.schedule.proofs.Endings.{runs_walks}
-use borrow.Author.Rules.{rules}
 use Rattle.schedule.proofs.walk.up_to.Goals as goal
 
 pub returns : goal.returns

@@ -1,6 +1,5 @@
 -- `datetime_kind` meets its contract: the first rule that fits, by the length, the first four bits and the octet behind the seconds. Assumes nothing.
 use mathlib.Core.Path.{◌≡◌, sym, ◌∙◌}
-use mathlib.Core.Logic.{⊎_elim}
 use mathlib.Core.Bool.{true, false}
 use native.Mathlib.Omega.{arith}
 use lib.Dec.{eqb}
@@ -11,7 +10,6 @@ use Rattle.format.specs.Fields.{is_sign}
 use Rattle.format.specs.Reading.{first_bits}
 use Rattle.format.specs.EitherOr.{kind_by01, kind_in}
 use Rattle.format.proofs.Cases.{both_false}
-use borrow.Author.Rules.{rules}
 use Rattle.stamp.proofs.either.datetime_kind.Goals as goal
 use Rattle.stamp.proofs.either.datetime_kind.Goals.{else-n-eq25-via-then-n-eq25+else-is_sign, else-n-eq25-via-else-n-eq25}
 
@@ -52,7 +50,7 @@ returns-then-n-le26 c =
     let s = f.args.s.now in
     let no : both (eqb (length s) 25) (is_sign (get_or s 19 0)) ≡ false =
     elim c.else-n-eq25.branch as (λ _. both (eqb (length s) 25) (is_sign (get_or s 19 0)) ≡ false) [
-      else-n-eq25-via-then-n-eq25+else-is_sign w ↦ let none : is_sign (get_or s 19 0) ≡ false = sym w.is_sign.ensures ∙ w.if-is_sign.false in rw none (both_false (eqb (length s) 25))
+      | else-n-eq25-via-then-n-eq25+else-is_sign w ↦ let none : is_sign (get_or s 19 0) ≡ false = sym w.is_sign.ensures ∙ w.if-is_sign.false in rw none (both_false (eqb (length s) 25))
       | else-n-eq25-via-else-n-eq25 w ↦ rw (ne_eqb (length s) 25 w.if-n-eq25.false)
     ] in
     rw (no, lt-leb _ _ f.if-n-le6.false, lt-leb _ _ f.if-n-le9.false, ne_eqb _ _ e.if-bits-eq8.false, ne_eqb _ _ e.if-bits-eq9.false, le-leb _ 26 c.if-n-le26.true)

@@ -1,6 +1,5 @@
 -- `time_kind` meets its contract: the first rule that fits, by the length, and of 14 octets by the one behind the seconds; 7 octets by themselves. Assumes nothing.
 use mathlib.Core.Path.{◌≡◌, sym, ◌∙◌}
-use mathlib.Core.Logic.{⊎_elim}
 use mathlib.Core.Bool.{true, false}
 use native.Mathlib.Omega.{arith}
 use lib.Dec.{eqb}
@@ -10,7 +9,6 @@ use Rattle.format.specs.Words.{both}
 use Rattle.format.specs.Fields.{is_sign}
 use Rattle.format.specs.EitherOr.{kind_by01, kind_in}
 use Rattle.format.proofs.Cases.{both_false}
-use borrow.Author.Rules.{rules}
 use Rattle.stamp.proofs.either.time_kind.Goals as goal
 use Rattle.stamp.proofs.either.time_kind.Goals.{else-n-eq14-via-then-n-eq14+else-is_sign, else-n-eq14-via-else-n-eq14}
 
@@ -38,7 +36,7 @@ returns-then-n-le15 c =
     let s = e.args.s.now in
     let no : both (eqb (length s) 14) (is_sign (get_or s 8 0)) ≡ false =
     elim c.else-n-eq14.branch as (λ _. both (eqb (length s) 14) (is_sign (get_or s 8 0)) ≡ false) [
-      else-n-eq14-via-then-n-eq14+else-is_sign w ↦ let none : is_sign (get_or s 8 0) ≡ false = sym w.is_sign.ensures ∙ w.if-is_sign.false in rw none (both_false (eqb (length s) 14))
+      | else-n-eq14-via-then-n-eq14+else-is_sign w ↦ let none : is_sign (get_or s 8 0) ≡ false = sym w.is_sign.ensures ∙ w.if-is_sign.false in rw none (both_false (eqb (length s) 14))
       | else-n-eq14-via-else-n-eq14 w ↦ rw (ne_eqb (length s) 14 w.if-n-eq14.false)
     ] in
     rw (no, lt-leb _ _ e.if-n-le4.false, lt-leb _ _ e.if-n-le6.false, ne_eqb _ _ e.if-n-eq7.false, le-leb _ 15 c.if-n-le15.true)

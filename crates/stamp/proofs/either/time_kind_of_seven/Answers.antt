@@ -5,12 +5,11 @@ use mathlib.Core.List.{List}
 use Prim.Native.Nat.{ℕ, ◌/◌}
 use lib.Dec.{eqb}
 use lib.ListN.{length, get_or}
-use borrow.Author.Tests.{eq-eqb, ne_eqb}
+use borrow.Author.Tests.{ne_eqb}
 use Rattle.format.specs.Words.{pick}
-use Rattle.format.specs.Values.{Kind, Time, TimeTz}
+use Rattle.format.specs.Values.{Time, TimeTz}
 use Rattle.format.specs.Reading.{first_bits}
 use Rattle.format.specs.EitherOr.{TimeOrTz, kind_by01, kind_in}
-use borrow.Author.Rules.{rules}
 use Rattle.stamp.proofs.either.time_kind_of_seven.Goals as goal
 
 zoned : (s : List ℕ) → length s ≡ 7 → get_or s 0 0 / 16 ≡ 9 → TimeTz ≡ kind_in TimeOrTz s

@@ -1,6 +1,5 @@
 -- The either-or reader meets its contract: the kind that is chosen, and what its reader answers. Assumes nothing.
 use Rattle.format.specs.EitherOr.{read_either}
-use borrow.Author.Rules.{rules}
 use Rattle.stamp.proofs.readers.read_date_or_date_tz.Goals as goal
 
 pub returns : goal.returns

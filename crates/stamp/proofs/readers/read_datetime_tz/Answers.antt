@@ -5,7 +5,6 @@ use Rattle.format.specs.Values.{DatetimeTz}
 use Rattle.format.specs.Keeping.{own}
 use Rattle.values.specs.Answers.{parsed}
 use Rattle.stamp.proofs.Decoding.{under_kind}
-use borrow.Author.Rules.{rules}
 use Rattle.stamp.proofs.readers.read_datetime_tz.Goals as goal
 
 pub returns-in-Stamp : goal.returns-in-Stamp

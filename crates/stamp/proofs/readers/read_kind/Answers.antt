@@ -1,5 +1,4 @@
 -- `read_kind` meets its contract: what the reader of the kind answers. Assumes nothing.
-use borrow.Author.Rules.{rules}
 use Rattle.stamp.proofs.readers.read_kind.Goals as goal
 
 pub returns-in-Date : goal.returns-in-Date

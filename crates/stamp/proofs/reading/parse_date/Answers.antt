@@ -2,7 +2,6 @@
 use mathlib.Core.Path.{refl}
 use Rattle.format.specs.Values.{Date}
 use Rattle.stamp.proofs.Choosing.{as_compact, as_text}
-use borrow.Author.Rules.{rules}
 use Rattle.stamp.proofs.reading.parse_date.Goals as goal
 
 pub returns-then-s-longest : goal.returns-then-s-longest

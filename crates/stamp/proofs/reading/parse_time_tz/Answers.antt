@@ -6,7 +6,6 @@ use Rattle.format.specs.Values.{TimeTz}
 use Rattle.format.specs.Extended.{head_bits}
 use Rattle.format.specs.Reading.{first_bits}
 use Rattle.stamp.proofs.Choosing.{as_compact, as_extended, as_text}
-use borrow.Author.Rules.{rules}
 use Rattle.stamp.proofs.reading.parse_time_tz.Goals as goal
 
 pub returns-then-s-longest : goal.returns-then-s-longest

@@ -6,7 +6,6 @@ use Rattle.format.specs.Choice.{form_for}
 use Rattle.format.proofs.Cases.{not_true, not_false}
 use Rattle.values.proofs.Writes.{refuses}
 use Rattle.stamp.proofs.Choosing.{too_many, in_form}
-use borrow.Author.Rules.{rules}
 use Rattle.stamp.proofs.writers.write_date.Goals as goal
 use Rattle.stamp.proofs.writers.write_date.Goals.{Else-not-in_range}
 

@@ -6,7 +6,6 @@ use Rattle.format.proofs.Cases.{not_true, not_false}
 use Rattle.values.specs.Meaning.{form_from}
 use Rattle.values.proofs.Writes.{refuses}
 use Rattle.stamp.proofs.Choosing.{too_many, in_form, chosen_digits}
-use borrow.Author.Rules.{rules}
 use Rattle.stamp.proofs.writers.write_time.Goals as goal
 use Rattle.stamp.proofs.writers.write_time.Goals.{Else-not-in_range}
 

@@ -1,6 +1,6 @@
 -- `digit_by_digit` meets its contract. The loop's invariant: the octets passed are digits, and `number` is theirs. The measure is how many
 -- digits are left. Assumes nothing.
-use Rattle.std.proofs.Common.{◌≡◌, ◌+◌, ◌-◌, ◌<◌, ◌≤◌, true, get_or, sym, refl, ◌∙◌, arith}
+use Rattle.std.proofs.Common.{◌≡◌, ◌+◌, ◌<◌, true, get_or, sym, refl, ◌∙◌, arith}
 use Rattle.format.specs.Digits.{are_digits, number_at}
 use Rattle.format.proofs.Cases.{not_true, not_false}
 use Rattle.format.proofs.Decimal.{Digit, digit, more_digits, more_number, number_small}

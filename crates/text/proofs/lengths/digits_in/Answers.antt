@@ -1,5 +1,5 @@
 -- `digits_in` meets its contract: one length without a fraction, six with one, where there is a time. Assumes nothing.
-use Rattle.std.proofs.Common.{◌≡◌, true, sym, ◌∙◌, arith, rules}
+use Rattle.std.proofs.Common.{◌≡◌, true, sym, ◌∙◌, arith}
 use Rattle.format.specs.Values.{timed}
 use Rattle.format.proofs.Cases.{not_true, not_false}
 use Rattle.values.specs.Meaning.{kind_from}

@@ -1,7 +1,6 @@
 -- `whole_length` meets its contract: the definition, computed for each kind. Assumes nothing.
 use Rattle.format.specs.Fields.{width, widths}
 use Rattle.format.specs.Text.{layout, text_length}
-use Rattle.std.proofs.Common.{rules}
 use Rattle.text.proofs.lengths.whole_length.Goals as goal
 
 pub returns-in-Date : goal.returns-in-Date

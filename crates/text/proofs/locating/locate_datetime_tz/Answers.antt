@@ -1,6 +1,6 @@
 -- `locate_datetime_tz` meets its contract, as `read_datetime_tz` does: each part that was read tells what is known behind it, and each test of the refusal
 -- that it stands for. Assumes nothing.
-use Rattle.std.proofs.Common.{◌≡◌, ◌<◌, true, not, sym, refl, ap, arith, rules}
+use Rattle.std.proofs.Common.{◌≡◌, ◌<◌, true, not, sym, refl, ap, arith}
 use Rattle.format.specs.Calendar.{is_day, day_number}
 use Rattle.format.specs.Values.{DatetimeTz}
 use Rattle.format.proofs.Dates.{number_small}

@@ -1,5 +1,5 @@
 -- `is_clean` meets its contract: the two tests, in the definition's order. Assumes nothing.
-use Rattle.std.proofs.Common.{rules, eq-eqb, ne_eqb}
+use Rattle.std.proofs.Common.{eq-eqb, ne_eqb}
 use Rattle.text.specs.Pairs.{clean}
 use Rattle.text.proofs.pairs.is_clean.Goals as goal
 

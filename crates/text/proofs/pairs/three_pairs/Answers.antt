@@ -1,5 +1,5 @@
 -- `three_pairs` meets its contract: the word's test tells of its eight octets. Assumes nothing.
-use Rattle.std.proofs.Common.{sym, ◌∙◌, arith, rules}
+use Rattle.std.proofs.Common.{sym, ◌∙◌, arith}
 use lib.Bits.{bit_xor}
 use Rattle.format.proofs.Cases.{not_true, not_false}
 use Rattle.text.proofs.PairLaws.{zeros_with, three_refused, three_read, ThreeRead}

@@ -1,5 +1,5 @@
 -- `read_date` meets its contract: each part that was read tells what is known behind it, and each test of the refusal that it stands for. Assumes nothing.
-use Rattle.std.proofs.Common.{refl, rules}
+use Rattle.std.proofs.Common.{refl}
 use Rattle.format.specs.Values.{Date}
 use Rattle.text.proofs.Rows.{passes}
 use Rattle.text.proofs.Texts.{too_many}

@@ -1,5 +1,5 @@
 -- `read_time` meets its contract: each part that was read tells what is known behind it, and each test of the refusal that it stands for. Assumes nothing.
-use Rattle.std.proofs.Common.{refl, ap, rules}
+use Rattle.std.proofs.Common.{refl, ap}
 use Rattle.format.specs.Calendar.{no_date}
 use Rattle.format.specs.Values.{Time}
 use Rattle.calendar.specs.Meaning.{day_from}

@@ -1,5 +1,5 @@
 -- `clock_digits` meets its contract: the tens come out of the product, and with them the ones. Assumes nothing.
-use Rattle.std.proofs.Common.{refl, arith, rules}
+use Rattle.std.proofs.Common.{refl, arith}
 use Rattle.text.proofs.Lanes.{clock_tens, clock_digits}
 use Rattle.text.proofs.words.clock_digits.Goals as goal
 

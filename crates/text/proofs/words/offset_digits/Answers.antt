@@ -1,5 +1,5 @@
 -- `offset_digits` meets its contract: the tens come out of the product, and with them the ones. Assumes nothing.
-use Rattle.std.proofs.Common.{refl, arith, rules}
+use Rattle.std.proofs.Common.{refl, arith}
 use Rattle.text.proofs.Lanes.{offset_tens, offset_digits}
 use Rattle.text.proofs.words.offset_digits.Goals as goal
 

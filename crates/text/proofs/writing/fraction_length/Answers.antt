@@ -1,5 +1,5 @@
 -- `fraction_length` meets its contract: nothing for no digits, else the point and the digits. Assumes nothing.
-use Rattle.std.proofs.Common.{arith, rules}
+use Rattle.std.proofs.Common.{arith}
 use Rattle.text.proofs.PartLaws.{part_width}
 use Rattle.format.specs.Fields.{width}
 use Rattle.text.proofs.writing.fraction_length.Goals as goal

@@ -1,5 +1,5 @@
 -- `hour_minute_second` meets its contract: the word law, once each part is two digits. Assumes nothing.
-use Rattle.std.proofs.Common.{◌-◌, ◌*◌, arith, rules}
+use Rattle.std.proofs.Common.{◌-◌, ◌*◌, arith}
 use Rattle.text.proofs.PuttingWords.{clock_word}
 use Rattle.text.proofs.writing.hour_minute_second.Goals as goal
 

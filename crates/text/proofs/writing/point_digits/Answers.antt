@@ -1,5 +1,5 @@
 -- `point_digits` meets its contract: the word law, once each part is two digits. Assumes nothing.
-use Rattle.std.proofs.Common.{arith, rules}
+use Rattle.std.proofs.Common.{arith}
 use Rattle.text.proofs.PuttingWords.{point_word}
 use Rattle.text.proofs.writing.point_digits.Goals as goal
 

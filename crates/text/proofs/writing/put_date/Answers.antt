@@ -1,5 +1,5 @@
 -- `put_date` meets its contract: the century in a word of two octets, then a word of eight. Assumes nothing.
-use Rattle.std.proofs.Common.{◌-◌, ◌*◌, ◌∙◌, arith, rules}
+use Rattle.std.proofs.Common.{◌-◌, ◌*◌, ◌∙◌, arith}
 use Rattle.calendar.specs.Meaning.{day_from}
 use Rattle.text.proofs.PuttingWords.{two_word}
 use Rattle.text.proofs.Putting.{date_small, date_stored}

@@ -1,5 +1,5 @@
 -- `put_time` meets its contract: the clock, and over its end the word that ends with the fraction. Assumes nothing.
-use Rattle.std.proofs.Common.{◌/◌, ◌∙◌, arith, rules}
+use Rattle.std.proofs.Common.{◌/◌, ◌∙◌, arith}
 use Rattle.text.proofs.Putting.{time_small, time_stored}
 use Rattle.text.proofs.Wholes.{fraction_narrow}
 use Rattle.text.proofs.writing.put_time.Goals as goal

@@ -1,5 +1,5 @@
 -- `shifted` meets its contract: the law of a word that is stored further on. Assumes nothing.
-use Rattle.std.proofs.Common.{arith, rules}
+use Rattle.std.proofs.Common.{arith}
 use Rattle.text.proofs.Shifting.{shifted_word, shifted_fits}
 use Rattle.text.proofs.writing.shifted.Goals as goal
 

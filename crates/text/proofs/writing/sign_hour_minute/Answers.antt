@@ -1,5 +1,5 @@
 -- `sign_hour_minute` meets its contract: the word law, once each part is two digits. Assumes nothing.
-use Rattle.std.proofs.Common.{◌-◌, ◌*◌, ◌/◌, refl, arith, to_z-of_z, w32, to_z, of_z, rules}
+use Rattle.std.proofs.Common.{◌-◌, ◌*◌, ◌/◌, refl, arith, to_z-of_z, w32, to_z, of_z}
 use Rattle.text.proofs.PuttingWords.{mark_small, offset_word}
 use Rattle.text.proofs.writing.sign_hour_minute.Goals as goal
 

@@ -1,5 +1,5 @@
 -- `size` meets its contract: each arm by the sign that its test tells. Assumes nothing.
-use Rattle.std.proofs.Common.{nat_abs, ap, arith, w32, rules}
+use Rattle.std.proofs.Common.{nat_abs, ap, arith, w32}
 use Rattle.octets.proofs.Integers.{unsigned}
 use Rattle.text.proofs.PuttingSigns.{negated_fits, negated, kept}
 use Rattle.text.proofs.writing.size.Goals as goal

@@ -1,6 +1,5 @@
 -- `year_month_day` meets its contract: the word law, once each part is two digits. Assumes nothing.
 use Rattle.text.proofs.PuttingWords.{date_word}
-use Rattle.std.proofs.Common.{rules}
 use Rattle.text.proofs.writing.year_month_day.Goals as goal
 
 pub returns : goal.returns

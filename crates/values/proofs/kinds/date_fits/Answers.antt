@@ -1,6 +1,5 @@
 -- `date_fits` meets its contract: asked only where the kind has the part. Assumes nothing.
 use mathlib.Core.Path.{sym, ◌∙◌}
-use borrow.Author.Rules.{rules}
 use Rattle.values.proofs.kinds.date_fits.Goals as goal
 
 pub returns-then-dated : goal.returns-then-dated

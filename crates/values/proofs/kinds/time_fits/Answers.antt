@@ -1,6 +1,5 @@
 -- `time_fits` meets its contract: asked only where the kind has the part. Assumes nothing.
 use mathlib.Core.Path.{sym, ◌∙◌}
-use borrow.Author.Rules.{rules}
 use Rattle.values.proofs.kinds.time_fits.Goals as goal
 
 pub returns-then-timed : goal.returns-then-timed

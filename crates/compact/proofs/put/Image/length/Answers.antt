@@ -2,7 +2,6 @@
 use mathlib.Core.Path.{sym}
 use native.Mathlib.Omega.{arith}
 use Rattle.compact.proofs.Stored.{image_length}
-use borrow.Author.Rules.{rules}
 use Rattle.compact.proofs.put.Image.length.Goals as goal
 
 pub overflow_add-result : goal.overflow_add-result

@@ -12,7 +12,6 @@ use Rattle.calendar.specs.Meaning.{day_answered}
 use Rattle.values.specs.Meaning.{kind_from}
 use Rattle.compact.specs.Meaning.{day_taken}
 use Rattle.compact.proofs.Flags.{day_small}
-use borrow.Author.Rules.{rules}
 use Rattle.compact.proofs.reading.Taken.date.Goals as goal
 use Rattle.compact.proofs.reading.Taken.date.Goals.{After-date_of}
 

@@ -2,7 +2,6 @@
 use mathlib.Core.Path.{◌≡◌, sym, ◌∙◌}
 use Prim.Native.Nat.{◌/◌, ◌<◌}
 use native.Mathlib.Omega.{arith}
-use borrow.Author.Rules.{rules}
 use Rattle.format.specs.Compact.{millis_per_day}
 use Rattle.values.specs.Meaning.{kind_from}
 use Rattle.compact.specs.Meaning.{day_taken}

@@ -2,7 +2,6 @@
 -- Assumes nothing.
 use mathlib.Core.Path.{sym, ◌∙◌}
 use native.Mathlib.Omega.{arith}
-use borrow.Author.Rules.{rules}
 use Rattle.format.specs.CompactReading.{compact_value}
 use Rattle.format.proofs.Cases.{not_true, not_false}
 use Rattle.values.specs.Meaning.{kind_from}

@@ -1,6 +1,5 @@
 -- `Ended::last_of` meets its contract. Assumes nothing.
 use mathlib.Core.Path.{◌≡◌, refl, sym, ap, ◌∙◌}
-use Prim.Native.Nat.{◌≤◌}
 use native.Mathlib.Omega.{arith}
 use Rattle.schedule.specs.Steps.{last_place}
 use Rattle.schedule.proofs.Finding.{last_here, last_below, last_none}

@@ -1,9 +1,7 @@
 -- `Ended::last_of` meets its contract. Assumes nothing.
-use mathlib.Core.Path.{◌≡◌, refl, sym, ap, ◌∙◌}
+use mathlib.Core.Path.{◌≡◌}
 use Prim.Native.Nat.{◌≤◌}
-use native.Mathlib.Omega.{arith}
 use Rattle.schedule.specs.Steps.{last_place}
-use Rattle.schedule.proofs.Finding.{last_here, last_below, last_none}
 use Rattle.schedule.proofs.walk.Ended.last_of.Given as goal
 
 abbrev pub invariant-loop-place : goal.invariant-loop-place

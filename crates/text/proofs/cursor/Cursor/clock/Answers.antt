@@ -1,5 +1,5 @@
 -- `clock` meets its contract: the three pairs say the same, and eight octets are read. Assumes nothing.
-use Rattle.std.proofs.Common.{sym, refl, ap, ◌∙◌, rules}
+use Rattle.std.proofs.Common.{sym, refl, ap, ◌∙◌}
 use Rattle.text.specs.Pairs.{three_row}
 use Rattle.text.proofs.cursor.Cursor.clock.Goals as goal
 

@@ -1,5 +1,5 @@
 -- `date` meets its contract: the century, and the three pairs behind it. Assumes nothing.
-use Rattle.std.proofs.Common.{◌≡◌, ℕ, ◌+◌, [], ◌∷◌, sym, refl, ap, ◌∙◌, arith, rules}
+use Rattle.std.proofs.Common.{◌≡◌, ℕ, ◌+◌, [], ◌∷◌, sym, refl, ap, ◌∙◌, arith}
 use Rattle.format.specs.Words.{accepted}
 use Rattle.text.specs.Pairs.{row_at, number_row, three_row}
 use Rattle.text.proofs.PartLaws.{century_row, pairs_row, date_no_century, date_no_rest, date_done, century_small, three_small}

@@ -1,5 +1,5 @@
 -- `fraction` meets its contract: three digits as a word, others one by one, and as many octets as the field is wide. Assumes nothing.
-use Rattle.std.proofs.Common.{◌≡◌, sym, ap, ◌∙◌, arith, rules}
+use Rattle.std.proofs.Common.{◌≡◌, sym, ap, ◌∙◌, arith}
 use Rattle.format.specs.Fields.{width}
 use Rattle.text.specs.Putting.{fraction_field}
 use Rattle.text.specs.Pairs.{number_row}

@@ -1,5 +1,5 @@
 -- `zone` meets its contract: the sign, and the two pairs behind it. Assumes nothing.
-use Rattle.std.proofs.Common.{sym, refl, ap, ◌∙◌, rules}
+use Rattle.std.proofs.Common.{sym, refl, ap, ◌∙◌}
 use Rattle.format.proofs.Cases.{not_true, not_false}
 use Rattle.text.specs.Pairs.{two_row}
 use Rattle.text.proofs.PartLaws.{zone_no_sign, zone_no_rest, zone_done}

@@ -1,5 +1,5 @@
 -- `Clock::in_range` meets its contract: the tests, in the definition's order. Assumes nothing.
-use Rattle.std.proofs.Common.{arith, rules, le-leb}
+use Rattle.std.proofs.Common.{arith, le-leb}
 use borrow.Author.Tests.{lt-leb}
 use Rattle.text.proofs.parts.Clock.in_range.Goals as goal
 

@@ -1,5 +1,5 @@
 -- `Clock::new` meets its contract: hour, minute and second have room, and the time is made of all of them. Assumes nothing.
-use Rattle.std.proofs.Common.{ap, rules}
+use Rattle.std.proofs.Common.{ap}
 use Rattle.values.specs.declared.parts.Time.{Time}
 use Rattle.text.specs.declared.parts.Clock.{Clock}
 use Rattle.text.proofs.parts.Clock.new.Goals as goal

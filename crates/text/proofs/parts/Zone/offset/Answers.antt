@@ -1,5 +1,5 @@
 -- `Zone::offset` meets its contract: the minutes fit 32 bits, and so does what is opposite. Assumes nothing.
-use Rattle.std.proofs.Common.{◌+◌, ◌*◌, arith, rules}
+use Rattle.std.proofs.Common.{◌+◌, ◌*◌, arith}
 use Rattle.text.specs.Parts.{offset_of}
 use Rattle.text.proofs.Opposites.{whole, opposite_fits, opposite}
 use Rattle.text.proofs.parts.Zone.offset.Goals as goal

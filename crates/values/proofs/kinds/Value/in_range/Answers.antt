@@ -2,7 +2,6 @@
 use mathlib.Core.Path.{sym, ◌∙◌}
 use Rattle.format.specs.Values.{in_range}
 use Rattle.format.proofs.Cases.{not_true, not_false}
-use borrow.Author.Rules.{rules}
 use Rattle.values.proofs.kinds.Value.in_range.Goals as goal
 
 pub returns-then-not-date_fits : goal.returns-then-not-date_fits

@@ -1,7 +1,6 @@
 -- `Value::rest_in_range` meets its contract: the time's test, and then the offset's. Assumes nothing.
 use mathlib.Core.Path.{sym, ◌∙◌}
 use Rattle.format.proofs.Cases.{not_true, not_false}
-use borrow.Author.Rules.{rules}
 use Rattle.values.proofs.kinds.Value.rest_in_range.Goals as goal
 
 pub returns-then-not-time_fits : goal.returns-then-not-time_fits

@@ -1,5 +1,4 @@
 -- `Settings::for_form` meets its contract, form by form. Assumes nothing.
-use borrow.Author.Rules.{rules}
 use Rattle.format.specs.Choice.{settings_for}
 use Rattle.values.proofs.settings.Settings.for_form.Goals as goal
 

@@ -1,11 +1,10 @@
 -- `Settings::form` meets its contract: at each return the tests that led there settle the choice. Assumes nothing.
-use mathlib.Core.Path.{◌≡◌, refl, sym, ◌∙◌}
+use mathlib.Core.Path.{◌≡◌, sym, ◌∙◌}
 use mathlib.Core.Bool.{true, false}
-use Prim.Native.Nat.{ℕ, ◌<◌, ◌≤◌}
+use Prim.Native.Nat.{◌<◌, ◌≤◌}
 use lib.Dec.{eqb}
-use borrow.Author.Rules.{rules}
 use borrow.Author.Tests.{le-leb, lt-leb, eq-eqb, ne_eqb}
-use Rattle.format.specs.Values.{Kind, timed, Value, end_of_day, Settings, Form, text, compact, extended}
+use Rattle.format.specs.Values.{Kind, timed, Value, end_of_day, Settings, text, compact, extended}
 use Rattle.format.specs.Choice.{form_for}
 use Rattle.format.proofs.Cases.{not_true, not_false}
 use Rattle.values.proofs.settings.Settings.form.Goals as goal
