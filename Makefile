@@ -1,4 +1,4 @@
-# make            the library, libstamp.a and libstamp.so.1.5, and the tool build/stamp, for this machine
+# make            the library, libstamp.a and libstamp.so.1.4, and the tool build/stamp, for this machine
 # make test       the gate
 # make install    library, header, stamp.pc, tool and man page, under PREFIX, the library in LIBDIR; all below DESTDIR if there is one
 # make uninstall  takes away what make install puts there, given the same words

@@ -29,7 +29,7 @@
 #include <stdbool.h>
 #endif
 
-#define STAMP_RELEASE "1.5"
+#define STAMP_RELEASE "1.4"
 
 /* ---- Kinds, forms, limits ---- */
 

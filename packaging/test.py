@@ -18,7 +18,7 @@ ROOT = Path(__file__).resolve().parent.parent
 sys.path.insert(0, str(ROOT / 'tool' / 'tests'))
 from transcripts import README, readme_cases, tried  # noqa: E402
 
-RELEASE = '1.5'
+RELEASE = '1.4'
 SHARED = f'libstamp.so.{RELEASE}'
 # What is installed, each file with its mode, each link with where it leads.
 INSTALLED = {'bin/stamp': '755', 'include/stamp.h': '644', 'lib/libstamp.a': '644', 'lib/libstamp.so': 'libstamp.so.1', 'lib/libstamp.so.1': SHARED,

@@ -48,7 +48,7 @@ static bool is_word(const char *wanted, const char *word)
 static bool no_such_command(char **words)
 {
     if (strcmp(words[0], "schedule") == 0)
-        return wrong("schedule check, schedule list, schedule holds, schedule over or schedule make?", words[1]);
+        return wrong("schedule check, schedule list, schedule holds or schedule make?", words[1]);
     return wrong("no such command", words[0]);
 }
 
@@ -127,7 +127,7 @@ static bool is_of_question(const char *option)
 static bool parse_question(const char *option, char *word, request *into)
 {
     if (!is_question(into->asked))
-        return wrong("only schedule holds and schedule over have the option", option);
+        return wrong("only schedule holds has the option", option);
     if (strcmp(option, "--at") == 0)
         return parse_at(word, into);
     if (strcmp(option, "--channel") == 0) {
