@@ -1,5 +1,5 @@
 #!/usr/bin/env python3
-"""Writes the cases and their answers: cases.py writing|reading|instants|schedule OUTDIR
+"""Writes the cases and their answers: cases.py writing|reading|instants|schedule|over OUTDIR
 
 Two text files, `cases` and `answers`; line i of one belongs to line i of the
 other. Fields are separated by one space, every line ends with a newline.
@@ -92,8 +92,6 @@ def schedule_lines():
         answer = CALLS[letter](file, *asked)
         answer_line = fields(answer) if isinstance(answer, tuple) else str(answer)
         yield fields([letter, *asked, hex_or_dash(file)]), answer_line
-    # Behind all others, whose lines so stay as they were.
-    yield from over_lines()
 
 
 def over_lines():
@@ -128,9 +126,10 @@ def print_table(lines):
 
 def main():
     makers = {"writing": writing_lines, "reading": reading_lines,
-              "instants": instant_lines, "schedule": schedule_lines}
+              "instants": instant_lines, "schedule": schedule_lines,
+              "over": over_lines}
     if len(sys.argv) != 3 or sys.argv[1] not in makers:
-        sys.exit("usage: cases.py writing|reading|instants|schedule OUTDIR")
+        sys.exit("usage: cases.py writing|reading|instants|schedule|over OUTDIR")
     lines = list(makers[sys.argv[1]]())
     os.makedirs(sys.argv[2], exist_ok=True)
     for column, name in enumerate(("cases", "answers")):

@@ -5,7 +5,7 @@ use Rattle.stamp.proofs.OneAnswer as stamp
 use Rattle.instants.proofs.OneAnswer as instants
 use Rattle.schedule.proofs.OneAnswer as schedule
 use Rattle.boundary.proofs.OneAnswer as boundary
-use Rattle.claims.specs.OneAnswer.{CalendarAnswers, PartsAnswers, SettingsAnswers, WritersAnswers, ReadersAnswers, InstantsAnswers, ScheduleAnswers, BoundaryAnswers}
+use Rattle.claims.specs.OneAnswer.{CalendarAnswers, PartsAnswers, SettingsAnswers, WritersAnswers, ReadersAnswers, InstantsAnswers, ScheduleAnswers, OverAnswers, BoundaryAnswers, OverForCAnswers}
 
 pub calendar_answers : CalendarAnswers
 calendar_answers = (calendar.one_new, calendar.one_in_range, calendar.one_day_number, calendar.one_date_of, calendar.one_year_start)
@@ -74,7 +74,10 @@ instants_answers = (
 )
 
 pub schedule_answers : ScheduleAnswers
-schedule_answers = (schedule.one_number, schedule.one_read, schedule.one_record_at, schedule.one_holds, schedule.one_part_over, schedule.one_over)
+schedule_answers = (schedule.one_number, schedule.one_read, schedule.one_record_at, schedule.one_holds)
+
+pub over_answers : OverAnswers
+over_answers = (schedule.one_part_over, schedule.one_over)
 
 pub boundary_answers : BoundaryAnswers
 boundary_answers = (
@@ -88,5 +91,7 @@ boundary_answers = (
   boundary.one_stamp_schedule_read,
   boundary.one_stamp_schedule_record,
   boundary.one_stamp_schedule_holds,
-  boundary.one_stamp_schedule_over,
 )
+
+pub over_for_c_answers : OverForCAnswers
+over_for_c_answers = boundary.one_stamp_schedule_over

@@ -100,17 +100,21 @@ InstantsAnswers =
     × ((i : Instant) (o : Offset) → OneAnswer (instants.InstantAt i o))
     × ((v : DatetimeTz) (o : Offset) → OneAnswer (instants.Restates v o))
 
--- its octets, the memory that they are in, and their place there: all of a reference but the name by which the logic keeps account of it, which no program sees
-abbrev pub OnePart : (Bor (List ℕ) → Type 0) → Type 0
-OnePart P = (r r' : Bor (List ℕ)) → P r → P r' → (r.now ≡ r'.now) × (r.ref_ptr ≡ r'.ref_ptr)
-
 abbrev pub ScheduleAnswers : Type 0
 ScheduleAnswers =
     ((f : ScheduleRefusal) → OneAnswer (schedule.RefusalNumber f))
     × ((s : List ℕ) → OneAnswer (schedule.ReadsFile s))
     × ((s : List ℕ) (p : ℕ) → OneAnswer (schedule.FindsRecord s p))
     × ((s : List ℕ) (i : Instant) (c : ℕ) → OneAnswer (schedule.AsksFile s i c))
-    × ((p m : List ℕ) (i : Instant) (c : ℕ) → OneAnswer (schedule.ChoosesPart p m i c))
+
+-- manual over plan, which is prepared: by itself
+-- its octets, the memory that they are in, and their place there: all of a reference but the name by which the logic keeps account of it, which no program sees
+abbrev pub OnePart : (Bor (List ℕ) → Type 0) → Type 0
+OnePart P = (r r' : Bor (List ℕ)) → P r → P r' → (r.now ≡ r'.now) × (r.ref_ptr ≡ r'.ref_ptr)
+
+abbrev pub OverAnswers : Type 0
+OverAnswers =
+    ((p m : List ℕ) (i : Instant) (c : ℕ) → OneAnswer (schedule.ChoosesPart p m i c))
     × ((p m : Bor (List ℕ)) (i : Instant) (c : ℕ) → OnePart (schedule.HandsBack p m i c))
 
 -- the C functions: the number, the count and every octet; the number and all parts; the number and the number handed over; the number and both counts; the number, the
@@ -149,4 +153,6 @@ BoundaryAnswers =
     × ((s : List ℕ) → OneCountForC (files.ReadForC s))
     × ((s : List ℕ) (p : ℕ) → OneReadingForC (files.RecordForC s p))
     × ((s : List ℕ) (t : ℤ) (c : ℕ) → OneHoldingForC (files.HoldsForC s t c))
-    × ((p m : List ℕ) (t : ℤ) (c : ℕ) → OnePartForC (files.OverForC p m t c))
+
+abbrev pub OverForCAnswers : Type 0
+OverForCAnswers = (p m : List ℕ) (t : ℤ) (c : ℕ) → OnePartForC (files.OverForC p m t c)
