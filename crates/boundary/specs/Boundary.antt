@@ -1,10 +1,10 @@
 -- The C boundary: kinds, forms and answers as numbers, and what its two calls promise. (The numbers are the header's.)
 --
 --   kind_numbered n      the kind with the number n: 0 Date, 1 DateTz, 2 Time, 3 TimeTz, 4 Datetime, 5 DatetimeTz; no such kind is refusal 2
---   known r             what `kind_of` and `kind_in` answer: a kind, or refusal 2
+--   known r              what `kind_of` and `kind_in` answer: a kind, or refusal 2
 --   value_of d m z       the value of a date, a time and an offset, whatever the kind
 --   writing_as o t v     what writing comes to at a kind that was looked up: no such kind is refused after 1, digits above 6
---   writing n t v       what writing comes to at the kind with the number n
+--   writing n t v        what writing comes to at the kind with the number n
 --   reading_as o s       what reading comes to at a kind that was looked up: no such kind is refused before the octets are looked at
 --   reading_of n s       what reading comes to at the number n: also 6 Date or DateTz, 7 Time or TimeTz, 8 Datetime or DatetimeTz
 --   kind_number k        the number of a kind, 0 to 5
@@ -13,7 +13,7 @@
 --   numbers_of k f d v   the eight numbers: kind, form's number, digits, year, month, day, microseconds, offset
 --   parts_of a           those of an answer. What the kind lacks is 0: in what is read it is 0 already (`read_owned`, format/proofs/Kept)
 --   parts_after o lent   the eight numbers after a call: the answer's, or as lent after a refusal
---   WritesNumbered      the promise of `stamp_write`, by the kind's number, settings and value: the number answered, *count and every octet
+--   WritesNumbered       the promise of `stamp_write`, by the kind's number, settings and value: the number answered, *count and every octet
 --   Hands o lent r left what is handed over of an outcome: the number answered and all eight parts
 --   ReadsNumbered       the promise of `stamp_read`, by the number and the octets: the number answered and all eight parts
 use Rattle.std.specs.Prelude.{ℕ, ◌≡◌, List, [], ◌∷◌, ℤ, pos, eqb}

@@ -1,21 +1,21 @@
 -- The C boundary of schedule files, and what its four calls promise. (02, requests 4, 5 and 6; the numbers are the header's.)
 --
---   full_number w             the number that full reading answers: 0, or the refusal's
---   full_count w              the number of records, and 0 after a refusal
---   full_place w              the place of the refused record, from one; 0 for the header, and where nothing is refused
---   record_numbers r          a record as five numbers: channel, correction, instant, start of its stamp, length of its stamp
---   in_words o                start and length of a record that was found are numbers of 63 bits
---   HandsRecord o lent r left   what is handed over of a record that was asked for, in five numbers (`HandsOver`)
---   ReadForC s r records fault  the promise of `stamp_schedule_read`, which answers r and leaves the two numbers so
---   RecordForC s p lent r left  the promise of `stamp_schedule_record`
---   held_numbers r            a record that holds as five numbers: place, start of its stamp, length of its stamp, instant, correction
---   held_or_zeros h            what holds, as five numbers: each 0 where none does yet; `asked_numbers a` of an answer
---   held_in_words h            `in_words`, of a record that holds; `asked_in_words o` of an answer
---   HandsAsked o lent r left    what is handed over of a question, in five numbers
+--   full_number w                the number that full reading answers: 0, or the refusal's
+--   full_count w                 the number of records, and 0 after a refusal
+--   full_place w                 the place of the refused record, from one; 0 for the header, and where nothing is refused
+--   record_numbers r             a record as five numbers: channel, correction, instant, start of its stamp, length of its stamp
+--   in_words o                   start and length of a record that was found are numbers of 63 bits
+--   HandsRecord o lent r left    what is handed over of a record that was asked for, in five numbers (`HandsOver`)
+--   ReadForC s r records fault   the promise of `stamp_schedule_read`, which answers r and leaves the two numbers so
+--   RecordForC s p lent r left   the promise of `stamp_schedule_record`
+--   held_numbers r               a record that holds as five numbers: place, start of its stamp, length of its stamp, instant, correction
+--   held_or_zeros h              what holds, as five numbers: each 0 where none does yet; `asked_numbers a` of an answer
+--   held_in_words h              `in_words`, of a record that holds; `asked_in_words o` of an answer
+--   HandsAsked o lent r left     what is handed over of a question, in five numbers
 --   HoldsForC s t c lent r count left   the promise of `stamp_schedule_holds`, which answers r and leaves the number of records read and the five numbers so
---   source_number x           one of two files as a number: 0 is the plan, 1 the manual schedule
---   part_numbers q            where a part starts in its file, and how many octets it has
---   OverForC p m t c r left  the promise of `stamp_schedule_over`, which answers r, and leaves two numbers whatever was lent
+--   source_number x              one of two files as a number: 0 is the plan, 1 the manual schedule
+--   part_numbers q               where a part starts in its file, and how many octets it has
+--   OverForC p m t c r left      the promise of `stamp_schedule_over`, which answers r, and leaves two numbers whatever was lent
 use Rattle.std.specs.Prelude.{ℕ, ◌<◌, ◌^◌, ◌≡◌, List, [], ◌∷◌, ℤ, pos}
 use Rattle.format.specs.Words.{Outcome, accepted, refused}
 use Rattle.card.specs.Header.{twelve}

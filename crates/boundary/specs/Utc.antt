@@ -1,11 +1,11 @@
 -- The C boundary of instants: numbers in, numbers out, and what its five calls promise. (02, request 2; the numbers are the header's.)
 --
---   stamp_numbers v           a stamp as five numbers: year, month, day, microseconds, offset
---   after put o lent         what is there after a call: `put` of what it came to, or as lent after a refusal
---   in_day o                  a stamp that a call came to has a time of the day
---   HandsOver                what is handed over of an outcome o: the number answered (r), and what is left where something was lent
---   HandsNumber o lent r left   the same of a number
---   HandsStamp o lent r left    the same of a stamp, in five numbers
+--   stamp_numbers v              a stamp as five numbers: year, month, day, microseconds, offset
+--   after put o lent             what is there after a call: `put` of what it came to, or as lent after a refusal
+--   in_day o                     a stamp that a call came to has a time of the day
+--   HandsOver                    what is handed over of an outcome o: the number answered (r), and what is left where something was lent
+--   HandsNumber o lent r left    the same of a number
+--   HandsStamp o lent r left     the same of a stamp, in five numbers
 --   InstantForC, AddForC, DifferenceForC, AtForC, RestateForC   the promises of `stamp_instant`, `stamp_add`, `stamp_difference`, `stamp_at`, `stamp_restate`
 use Rattle.std.specs.Prelude.{ℕ, ◌≤◌, ◌≡◌, List, [], ◌∷◌, ℤ, pos}
 use Rattle.format.specs.Words.{Outcome, accepted, refused}

@@ -1,13 +1,13 @@
 -- The bench: files, and what reading each comes to. Each refusal is met, by each reason. (02, request 4.)
 --
---   Row, file_of rows       a record by stamp, channel and correction; the file of such records
+--   Row, file_of rows      a record by stamp, channel and correction; the file of such records
 --   first, second, third   the records of the card: 2020-01-01T00:00 UTC as text, the same instant at +01:00 in compact form, 2020-01-01T24:00 UTC in extended form
 --   later                  one behind them: 2020-01-02T00:00 UTC, as text, which is the same instant as 24:00 before
 --   card                   the file of the three
 --   with p v               the card with v for the octet at place p
 --   reads s                full reading of a file of records of twelve octets: `records n`, or `refused_at p m`, refused with m at the place p
 --   Thrice x n             the record x is refused with n as the first, as the second and as the last of three
---   header_of a b c d       a header of these four numbers
+--   header_of a b c d      a header of these four numbers
 --   zeros n                n octets 0
 use Rattle.std.specs.Prelude.{ℕ, zero, suc, ◌+◌, ◌*◌, ◌≡◌, List, [], ◌∷◌, ◌++◌, ℤ, pos, neg_ℤ, length, set, take, drop}
 use Rattle.format.specs.Words.{accepted, refused}

@@ -1,11 +1,11 @@
 -- The bench of manual over plan: two files of `Bench.antt` and `BenchOfQuestions.antt`, and the part that comes back. (02, request 6.)
 --
---   parts p m t c      the part of the plan p or the manual schedule m that the instant t and the channel c give
---   part x a n         n octets of the file x from a on
---   one                the file of the card's first record alone: channel 1 at midnight, as text
---   evening            a file whose record of channel 1 is one microsecond before midnight
---   of_morning          a file whose record of channel 1 is at day_after: the next day's 00:00, where the card has 24:00
---   others             a file with records of channel 16 alone
+--   parts p m t c           the part of the plan p or the manual schedule m that the instant t and the channel c give
+--   part x a n              n octets of the file x from a on
+--   one                     the file of the card's first record alone: channel 1 at midnight, as text
+--   evening                 a file whose record of channel 1 is one microsecond before midnight
+--   of_morning              a file whose record of channel 1 is at day_after: the next day's 00:00, where the card has 24:00
+--   others                  a file with records of channel 16 alone
 --   year_one, hour_before   files whose record of channel 1 is at the instant 0, and an hour before it: an instant below 0
 use Rattle.std.specs.Prelude.{ℕ, ◌≡◌, List, [], ◌∷◌, ℤ, pos}
 use Rattle.format.specs.Bench.{ascii}

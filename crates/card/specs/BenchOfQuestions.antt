@@ -1,11 +1,11 @@
 -- The bench of questions: files of `Bench.antt`, and what asking each comes to. Each refusal is met, and none yet with each count. (02, request 5.)
 --
---   asks s t c           the question of the instant t and the channel c
+--   asks s t c            the question of the instant t and the channel c
 --   midnight, day_after   the instants of the card: 2020-01-01T00:00 UTC, of its first two records, and the next day's start, of its third
---   least, greatest      the ends of 64 bits
---   held n r             the answer: n records were read, and r holds; `none n`: none holds yet
---   the1, the2, the3     the records of the card, as an answer has them
---   again                a second correction of channel 1 at midnight; `later` is a record of `Bench.antt`, of channel 2 at day_after
+--   least, greatest       the ends of 64 bits
+--   held n r              the answer: n records were read, and r holds; `none n`: none holds yet
+--   the1, the2, the3      the records of the card, as an answer has them
+--   again                 a second correction of channel 1 at midnight; `later` is a record of `Bench.antt`, of channel 2 at day_after
 use Rattle.std.specs.Prelude.{ℕ, ◌≡◌, List, [], ◌∷◌, ℤ, pos, negsuc, neg_ℤ}
 use Rattle.format.specs.Words.{Outcome, accepted, refused}
 use Rattle.format.specs.Bench.{ascii}

@@ -1,13 +1,13 @@
 -- The schedule file: the form of its records, and its header. (02, request 4.) `format/specs/Words.antt` has the legend of what is not ours.
 --
 --   RecordForm         how long a record is: one of twelve octets is the only one so far
---   record_size f       the octets of one record
---   header_size         the octets of the header
---   most_records        the most records that a file can have
---   count_of s          the count of records that the header says
---   stamp_octets s      the count of stamp octets that it says
---   stamps_start f s    where the stamp octets start in the file: behind the header and the records
---   header_good f s     header, counts and regions are right; else refusal 13
+--   record_size f      the octets of one record
+--   header_size        the octets of the header
+--   most_records       the most records that a file can have
+--   count_of s         the count of records that the header says
+--   stamp_octets s     the count of stamp octets that it says
+--   stamps_start f s   where the stamp octets start in the file: behind the header and the records
+--   header_good f s    header, counts and regions are right; else refusal 13
 --
 -- Here s is a file, octet by octet, of any length. Numbers have no upper end, so no sum wraps. A place beyond the file reads as 0; the first test of the
 -- header rules that out.

@@ -1,13 +1,13 @@
 -- Manual over plan. (02, request 6.) "Maintenance nights have a second, manual schedule. Given both, an instant and a channel, hand back the stamp of the correction
 -- that holds, as a part of whichever of the two lent files it stands in".
 --
---   Source               one of the two files: the plan, or the manual schedule
---   of_two x p m          of the plan p and the manual schedule m the one that x names; also of what else there is one of for each file
---   Part                 a part of one of them: which, where it starts in it, and how many octets it has
---   stamp_in x r          the stamp of the record r of the file x
---   nothing              an empty part of the plan, its first
---   chosen h k           the part, from what holds in the plan and what holds in the manual schedule
---   chosen_of a b         the same from the answers to both questions of request 5
+--   Source          one of the two files: the plan, or the manual schedule
+--   of_two x p m    of the plan p and the manual schedule m the one that x names; also of what else there is one of for each file
+--   Part            a part of one of them: which, where it starts in it, and how many octets it has
+--   stamp_in x r    the stamp of the record r of the file x
+--   nothing         an empty part of the plan, its first
+--   chosen h k      the part, from what holds in the plan and what holds in the manual schedule
+--   chosen_of a b   the same from the answers to both questions of request 5
 --   handed_back f p m t c the part of the plan p or the manual schedule m that the instant t and the channel c give
 use Rattle.std.specs.Prelude.{ℕ, List, ℤ}
 use Rattle.std.specs.Int.Signed.{le_z}

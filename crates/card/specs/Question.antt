@@ -1,15 +1,15 @@
 -- Which correction holds now? (02, request 5.) "For an instant and channel, answer the last record of that channel at or before it. Read from the front and stop
 -- at the first record later than the instant."
 --
---   Held                    what holds: a record, or none yet
---   later t r               the record r is later than the instant t
---   held_by t c r            it is of the channel c, and at or before t
---   last_of p rs             the last record of the list for which the test p holds, or none yet
---   held_in_file f s h        h with its stamp's start within the file
---   Asked                   an answer: the number of records read, and what holds
---   answered f s t c w      the answer, from what reading came to
---   question f s t c        what the question of the instant t and the channel c comes to
---   records_read o           the number of records read, which a refusal carries too: 0
+--   Held                 what holds: a record, or none yet
+--   later t r            the record r is later than the instant t
+--   held_by t c r        it is of the channel c, and at or before t
+--   last_of p rs         the last record of the list for which the test p holds, or none yet
+--   held_in_file f s h   h with its stamp's start within the file
+--   Asked                an answer: the number of records read, and what holds
+--   answered f s t c w   the answer, from what reading came to
+--   question f s t c     what the question of the instant t and the channel c comes to
+--   records_read o       the number of records read, which a refusal carries too: 0
 use Rattle.std.specs.Prelude.{ℕ, Bool, not, List, [], ◌∷◌, ℤ, eqb, length}
 use Rattle.std.specs.Int.Signed.{le_z}
 use Rattle.format.specs.Words.{pick, both, Outcome, accepted, refused, unless}

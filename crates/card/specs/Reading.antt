@@ -2,11 +2,11 @@
 --
 --   Walked                   what reading comes to: the records read, or a fault: the place of the record, from one (0: the header), and the refusal
 --   walk f s stop i n b      reading from record i on, n records to go, after b: up to the first record for which `stop` holds, which is read too
---   walk_file f s stop        the same from the front, with the header's test
+--   walk_file f s stop       the same from the front, with the header's test
 --   never                    the test that no record meets: then all records are read
 --   FullReading              what full reading answers: `records n`, the number of records, or `refused_at p m`, refused with m at the place p
---   full_reading f s          full reading
---   record_asked f s place    the record at a place, from one, of an accepted file, with its stamp's start within the file
+--   full_reading f s         full reading
+--   record_asked f s place   the record at a place, from one, of an accepted file, with its stamp's start within the file
 use Rattle.std.specs.Prelude.{ℕ, zero, suc, ◌-◌, Bool, true, false, List, [], ◌∷◌, leb, length}
 use Rattle.format.specs.Words.{both, Outcome, accepted, refused, unless}
 use Rattle.card.specs.Header.{RecordForm, count_of, header_good}

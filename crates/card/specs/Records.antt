@@ -1,15 +1,15 @@
 -- A record by its place, and the list of all records. (02, request 4.) Places count from 0 here; an answer's place counts from one.
 --
---   record_start f i     where record i starts in the file
---   start_at, end_at      where its stamp starts and ends, within the stamp octets
---   length_at            its stamp's length
---   channel_at           its channel
---   correction_at        its correction, signed, in parts in 10 to the 18
---   stamp_at             the octets of its stamp
---   instant_at           the instant of its stamp; 0 where the stamp is refused
---   Record, record_at    all that is asked of a record: its place from one, where its stamp starts within the stamp octets and how long it is, channel,
+--   record_start f i    where record i starts in the file
+--   start_at, end_at    where its stamp starts and ends, within the stamp octets
+--   length_at           its stamp's length
+--   channel_at          its channel
+--   correction_at       its correction, signed, in parts in 10 to the 18
+--   stamp_at            the octets of its stamp
+--   instant_at          the instant of its stamp; 0 where the stamp is refused
+--   Record, record_at   all that is asked of a record: its place from one, where its stamp starts within the stamp octets and how long it is, channel,
 --                       correction, instant
---   in_file f s r        r with its stamp's start within the file
+--   in_file f s r       r with its stamp's start within the file
 --   records_from f s i n the n records from i on, in their order
 use Rattle.std.specs.Prelude.{ℕ, zero, suc, ◌+◌, ◌*◌, List, [], ◌∷◌, ℤ, pos, take, drop}
 use Rattle.format.specs.Words.{Outcome, accepted, refused}

@@ -1,18 +1,18 @@
 -- The step from record to record. (02, request 4.) What came before a record is all that a step knows of the others, so that whoever reads only a part of the
 -- file from the front (request 5) takes the same steps.
 --
---   Before               what came before a record: where the last stamp ended, and the last instant, if there is one
+--   Before                what came before a record: where the last stamp ended, and the last instant, if there is one
 --   at_front              before the first record
---   after r              before the record that follows r
+--   after r               before the record that follows r
 --   before_at f s i       before record i, by its place alone
 --   greatest_correction   the greatest correction, either way
 --   channel_good c        a channel is 1 to 16
---   placed               of a stamp's start and end, where the last one ended, the count of stamp octets, and whether it is the last record's: it starts where the last
---                        one ended, ends within its region, and the last record's ends the region
+--   placed                of a stamp's start and end, where the last one ended, the count of stamp octets, and whether it is the last record's: it starts where the last
+--                         one ended, ends within its region, and the last record's ends the region
 --   place_good            the stamp of record i is so placed
 --   fields_good           channel, correction and stamp place are right; else refusal 14
 --   in_order              the instant is not below the last one; else refusal 15
---   step f s i b         what comes of record i after b: the record, or the first of 14, 5 to 8, 15 that applies
+--   step f s i b          what comes of record i after b: the record, or the first of 14, 5 to 8, 15 that applies
 use Rattle.std.specs.Prelude.{ℕ, zero, suc, ◌+◌, Bool, true, List, ℤ, nat_abs, leb, eqb}
 use Rattle.std.specs.Int.Signed.{le_z}
 use Rattle.format.specs.Words.{both, needs, Outcome, accepted, refused, unless}

@@ -1,6 +1,6 @@
 -- What is claimed of document 01's rules, to be read by itself: each claim stands under its sentence of the users' demands.
 -- `proofs/Proved.antt` has a proof of each. The rules are those of the crate `format`: what a writer writes (`encode`, `image_in`, `form_for`,
--- `settings_for`), what a reader answers (`read`, `read_either`), what a form keeps (`cut`), what is in range and permitted (`inRange`, `permitted`),
+-- `settings_for`), what a reader answers (`read`, `read_either`), what a form keeps (`cut`), what is in range and permitted (`in_range`, `permitted`),
 -- and which kinds and values the exception is about (`family_of`, `plain_of`, `excepted`).
 --
 -- The third demand: "For each kind, octets are accepted exactly when some value in range, under some permitted settings, is written so. What is

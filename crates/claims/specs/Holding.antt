@@ -5,7 +5,7 @@
 --   question twelve s t c   what the question of the instant t and the channel c comes to (`card/specs/Question.antt`): `accepted a`, or `refused m`; `a.read` is the
 --                           number of records read, `a.held` what holds: `none_yet`, or `holds r`
 --   Channel c               c is a channel
---   the_record s i           record i, as an answer has it
+--   the_record s i          record i, as an answer has it
 --   NotLater s t i          record i is not later than t
 --   HoldsAt s t c i         it is not, and it is of the channel c
 --   LastOf s n t c i        record i is the last of the first n records that so holds; `NoneOf s n t c`: none of them does

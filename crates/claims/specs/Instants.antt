@@ -3,20 +3,20 @@
 -- a minute; 3,652,058 is the day number of 9999-12-31, and 315,537,897,600,000,000 are the microseconds of 3,652,059 days. What each call comes to is defined in
 -- `moments/specs/Calls.antt`:
 --
---   instant v        the instant of a stamp
---   add i n          an instant and so many microseconds
---   difference a b   a less b
---   at i o           the stamp of an instant at an offset
---   restate v o      a stamp restated at another offset
---   is_instant i      some stamp has the instant i (`TheInstants`)
---   local_of v        the local reading of v: microseconds from 0001-01-01T00:00 on its own clock
---   inRange DatetimeTz v, offset_in_range o   each part of the stamp is in range; an offset is (`TheLimits`)
---   day_number d      the days before the date d, from 0001-01-01 on
---   next_start v      the start of the day after v's, at v's offset
---   reading_at i o    what a clock reads at the instant i that is o minutes ahead of UTC
---   in_the_years x     the local reading x is at least that of 0001-01-01T00:00, and below that of 10000-01-01T00:00
---   IsAt i o w       w is in range, has the instant i and the offset o, and is not at 24:00
---   lt_z a b, le_z a b   a < b, a ≤ b, of integers; `a -ℤ b` is a less b; `signed_between a b x`: x is from -a to b; `A ⊎ B`: A or B
+--   instant v                    the instant of a stamp
+--   add i n                      an instant and so many microseconds
+--   difference a b               a less b
+--   at i o                       the stamp of an instant at an offset
+--   restate v o                  a stamp restated at another offset
+--   is_instant i                 some stamp has the instant i (`TheInstants`)
+--   local_of v                   the local reading of v: microseconds from 0001-01-01T00:00 on its own clock
+--   in_range DatetimeTz v, offset_in_range o   each part of the stamp is in range; an offset is (`TheLimits`)
+--   day_number d                 the days before the date d, from 0001-01-01 on
+--   next_start v                 the start of the day after v's, at v's offset
+--   reading_at i o               what a clock reads at the instant i that is o minutes ahead of UTC
+--   in_the_years x               the local reading x is at least that of 0001-01-01T00:00, and below that of 10000-01-01T00:00
+--   IsAt i o w                   w is in range, has the instant i and the offset o, and is not at 24:00
+--   lt_z a b, le_z a b           a < b, a ≤ b, of integers; `a -ℤ b` is a less b; `signed_between a b x`: x is from -a to b; `A ⊎ B`: A or B
 --
 -- Here v and w are any values, and i, a, b, m, n, o, x, y any integers: those of 64 bits among them.
 use Rattle.std.specs.Prelude.{ℕ, ◌+◌, ◌*◌, ◌<◌, ◌≤◌, ◌≡◌, ◌↔◌, ◌⊎◌, Bool, true, false, List, [], ◌∷◌, ℤ, pos, nat_abs, neg_ℤ, ◌+ℤ◌, ◌-ℤ◌, ◌*ℤ◌, ltb}

@@ -2,20 +2,20 @@
 -- any file as the manual schedule, t any integer, those of 64 bits among them, c any number. What request 5's question of one file answers is claimed in `Holding.antt`.
 --
 --   handed_back twelve p m t c   the part that comes back (`card/specs/Over.antt`): `source` is the file, `plan` or `manual`; `start` is where it starts in that file,
---                           `size` how many octets it has
---   HoldsIn s t c r         the question of request 5 of the file s, the instant t and the channel c answers the record r; `r.instant` is its stamp's instant,
---                           `r.start` and `r.size` tell where its stamp stands in s
---   NoneIn s t c            it answers none yet; `RefusedIn s t c`: it is refused
---   Unheld p m t c          neither holds a correction, or either question is refused
---   FromPlan p m t c r      the stamp of the record r of the plan is the one to hand back; `FromManual p m t c r`: of the manual schedule
---   of_two x p m             p or m, as x names it
---   instant_of v             the instant of a DatetimeTz (`moments/specs/Instant.antt`)
---   Alike a b               two answers that hold the same, or two refusals
---   ChoosesPart p m i c q   what `part_over` promises (`schedule/specs/Calls.antt`): q is its answer, in numbers
---   HandsBack P M i c r     what `over` promises: r is the part of the files P and M that are lent. `now r` are its octets, `ptr r` is where it stands: a memory and a
---                           place there
---   PartOf S a n r          r is n octets of the lent file S from a on, where they stand
---   OverForC                what the C function promises (`boundary/specs/Files.antt`)
+--                                `size` how many octets it has
+--   HoldsIn s t c r              the question of request 5 of the file s, the instant t and the channel c answers the record r; `r.instant` is its stamp's instant,
+--                                `r.start` and `r.size` tell where its stamp stands in s
+--   NoneIn s t c                 it answers none yet; `RefusedIn s t c`: it is refused
+--   Unheld p m t c               neither holds a correction, or either question is refused
+--   FromPlan p m t c r           the stamp of the record r of the plan is the one to hand back; `FromManual p m t c r`: of the manual schedule
+--   of_two x p m                 p or m, as x names it
+--   instant_of v                 the instant of a DatetimeTz (`moments/specs/Instant.antt`)
+--   Alike a b                    two answers that hold the same, or two refusals
+--   ChoosesPart p m i c q        what `part_over` promises (`schedule/specs/Calls.antt`): q is its answer, in numbers
+--   HandsBack P M i c r          what `over` promises: r is the part of the files P and M that are lent. `now r` are its octets, `ptr r` is where it stands: a memory and a
+--                                place there
+--   PartOf S a n r               r is n octets of the lent file S from a on, where they stand
+--   OverForC                     what the C function promises (`boundary/specs/Files.antt`)
 use Rattle.std.specs.Prelude.{ℕ, ◌+◌, ◌≤◌, ◌≡◌, ◌↔◌, ◌⊎◌, true, false, List, [], ◌∷◌, ℤ, length, take, drop}
 use Rattle.std.specs.Int.Signed.{le_z}
 use Rattle.std.specs.Borrow.{Bor}

@@ -1,13 +1,13 @@
 -- What is claimed of limits, defaults and choices, in the documents' own numbers: each stands here as a literal and not by its name in the definitions, so
 -- that a definition with another number would make a claim false. (`ReaderRefusals.antt` has the numbers of the readers' questions in the same way.)
 --
---   inRange k v           each part that the kind has is in its range; `needs (zoned k) ..`: asked only where the kind has an offset
---   permitted t           the settings may be given
+--   in_range k v           each part that the kind has is in its range; `needs (zoned k) ..`: asked only where the kind has an offset
+--   permitted t            the settings may be given
 --   form_for k t v         the form that a writer chooses
 --   has_form k compact v   the value has a compact form; where not, refusal 3
---   number k v            the number that compact writes: days, milliseconds, T
+--   number k v             the number that compact writes: days, milliseconds, T
 --   kind_in e s            the kind that an either-or reader chooses; `kind_by01 e s`: that it chose before request 1 of document 02
---   between a b n         n is from a to b; `signed_between a b x`: x is from -a to b
+--   between a b n          n is from a to b; `signed_between a b x`: x is from -a to b
 use Rattle.std.specs.Prelude.{ℕ, ◌≤◌, ◌≡◌, ◌↔◌, Bool, true, false, not, List, ℤ, pos, negsuc, nat_abs, leb, eqb, length, get_or}
 use Rattle.format.specs.Words.{both, either, needs, if_any, accepted}
 use Rattle.format.specs.Octets.{Octets}

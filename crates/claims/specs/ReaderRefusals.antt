@@ -4,31 +4,31 @@
 -- The form comes first: `form_in k s` is `compact`, `extended`, or `text d` with d fraction digits (`ChosenForm` says which). Then there are four questions
 -- about the kind k, that form f and the whole of s. Each stands by itself; the claims give their order:
 --
---   length_fits k f s        is the length one that this form of this kind can have?    if not, 5
---   octets_fit k f s         may each octet stand where it stands?                      if not, 6
---   nothing_redundant k f s  is nothing there that a writer leaves out?                 if not, 7
+--   length_fits k f s         is the length one that this form of this kind can have?    if not, 5
+--   octets_fit k f s          may each octet stand where it stands?                      if not, 6
+--   nothing_redundant k f s   is nothing there that a writer leaves out?                 if not, 7
 --   all_in_range k f s        is each number that stands there in its range?             if not, 8
---   value_said k f s         the value that stands there: the answer where all four are answered with yes
+--   value_said k f s          the value that stands there: the answer where all four are answered with yes
 --
 -- What they are made of, for any form and for a text:
 --
---   between a b n           n is from a to b; `signed_between a b x`: x is from -a to b
---   same s t                s and t are the same octets
---   layout k d              a row of fields, `yyyy-mm-ddThh:mm:ss.ffffff+hh:mm` without what the kind lacks, with d digits behind the point, and no point for 0
---   fit (layout k d) s 0    digits stand where the row has digits, `+` or `-` where it has the sign, its separators where they belong
---   numbers_in k d s         the numbers in that row, by their names; 0 for a field that is not there
---   is_day (day_named n)      there is such a day, in a year from 1 to 9999
---   text_value d n           the value that these numbers say
+--   between a b n          n is from a to b; `signed_between a b x`: x is from -a to b
+--   same s t               s and t are the same octets
+--   layout k d             a row of fields, `yyyy-mm-ddThh:mm:ss.ffffff+hh:mm` without what the kind lacks, with d digits behind the point, and no point for 0
+--   fit (layout k d) s 0   digits stand where the row has digits, `+` or `-` where it has the sign, its separators where they belong
+--   numbers_in k d s       the numbers in that row, by their names; 0 for a field that is not there
+--   is_day (day_named n)   there is such a day, in a year from 1 to 9999
+--   text_value d n         the value that these numbers say
 --
 -- for compact:
 --
---   with_offset k n          n octets of this kind begin with an offset, which takes two; `offset_part k s` are these (none where there is none),
---                           `number_part k s` those behind them, the number's
---   signed_of s              octets as a number in two's complement
---   padded_to k w            the fewest octets that the number is written in: behind an offset (w) 2 for days, 3 for milliseconds, 5 for T; else 1
---   tight s                 no octet only repeats the sign: the bits of the first octet and the first of the second are not all alike (X.690 8.3.2)
---   counted (start k) x     the days or milliseconds since 0001-01-01, where x counts from 2020-01-01; of a time x itself
---   compact_value k n x      the value of n of them and an offset x
+--   with_offset k n       n octets of this kind begin with an offset, which takes two; `offset_part k s` are these (none where there is none),
+--                         `number_part k s` those behind them, the number's
+--   signed_of s           octets as a number in two's complement
+--   padded_to k w         the fewest octets that the number is written in: behind an offset (w) 2 for days, 3 for milliseconds, 5 for T; else 1
+--   tight s               no octet only repeats the sign: the bits of the first octet and the first of the second are not all alike (X.690 8.3.2)
+--   counted (start k) x   the days or milliseconds since 0001-01-01, where x counts from 2020-01-01; of a time x itself
+--   compact_value k n x   the value of n of them and an offset x
 --
 -- and for extended:
 --

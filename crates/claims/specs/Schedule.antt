@@ -2,21 +2,21 @@
 -- numbers, and `accepted`, `refused`, in `format/specs/Words.antt`. The document's numbers stand here as literals. s is any file, octet by octet; i, j and k
 -- count records from 0.
 --
---   unsigned_at s p n      the unsigned big-endian number of the n octets of s from place p on; `signed_of` the signed number of octets
---   stamp_of s i           the octets of the stamp of record i: where its start, counted from the first stamp octet, and its length say
---   moment_of s i          the instant of that stamp, by the reader of DatetimeTz; 0 where it is refused
---   Header s              the header is as 02 has it
---   InPlace s i           channel, correction and stamp place of record i are as 02 has them
---   Stamped s i           its stamp is accepted by the reader of DatetimeTz, never either-or
---   InOrder s i           its instant is not below that of the record before
---   Good s i              all three
---   Card s                the file is as 02 has it
---   Faulty s i m          record i is refused with m: the first of the three that fails
---   full_reading twelve s  what full reading comes to (`card/specs/Reading.antt`): `records n`, or `refused_at p m`, refused with m at the record of place p, from one
+--   unsigned_at s p n         the unsigned big-endian number of the n octets of s from place p on; `signed_of` the signed number of octets
+--   stamp_of s i              the octets of the stamp of record i: where its start, counted from the first stamp octet, and its length say
+--   moment_of s i             the instant of that stamp, by the reader of DatetimeTz; 0 where it is refused
+--   Header s                  the header is as 02 has it
+--   InPlace s i               channel, correction and stamp place of record i are as 02 has them
+--   Stamped s i               its stamp is accepted by the reader of DatetimeTz, never either-or
+--   InOrder s i               its instant is not below that of the record before
+--   Good s i                  all three
+--   Card s                    the file is as 02 has it
+--   Faulty s i m              record i is refused with m: the first of the three that fails
+--   full_reading twelve s     what full reading comes to (`card/specs/Reading.antt`): `records n`, or `refused_at p m`, refused with m at the record of place p, from one
 --   record_asked twelve s p   what the record at the place p, from one, comes to
 --   ReadsFile, FindsRecord    what `read` and `record_at` promise (`schedule/specs/Calls.antt`): `F.Records n`, `F.Refused f p`, `D.Record r`, `D.Refused f` are their answers
 --   ReadForC, RecordForC      what the two C functions promise (`boundary/specs/Files.antt`); `Gets` is what C gets of a call (`Instants.antt`)
---   le_z a b               a ≤ b, of integers; `a -ℤ b` is a less b; `A ⊎ B`: A or B
+--   le_z a b                  a ≤ b, of integers; `a -ℤ b` is a less b; `A ⊎ B`: A or B
 use Rattle.std.specs.Prelude.{ℕ, suc, ◌+◌, ◌*◌, ◌<◌, ◌≤◌, ◌≡◌, ◌↔◌, ◌⊎◌, true, List, [], ◌∷◌, ℤ, pos, nat_abs, ◌-ℤ◌, ◌*ℤ◌, length, take, drop}
 use Rattle.std.specs.Int.Signed.{le_z}
 use Rattle.format.specs.Words.{Outcome, accepted, refused}

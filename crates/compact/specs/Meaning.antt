@@ -1,10 +1,10 @@
 -- What the code's types mean in the terms of `format`, and what `take` promises.
 --
 --   image_octets i    the octets of an image in the making: the offset's two or none, then the number's
---   imaged r         what `image` answers: the octets, or refusal 3, no compact form
---   Takes k s r      r is what stands in the octets s of a compact image of kind k
---   Sees k s r       r is that, of octets with a length that compact can have, or says nothing: the length is a rare one
---   SeesAlone n s r  the same of every kind that has images of n octets, and no offset in front in those of this length
+--   imaged r          what `image` answers: the octets, or refusal 3, no compact form
+--   Takes k s r       r is what stands in the octets s of a compact image of kind k
+--   Sees k s r        r is that, of octets with a length that compact can have, or says nothing: the length is a rare one
+--   SeesAlone n s r   the same of every kind that has images of n octets, and no offset in front in those of this length
 --   read_taken k r    what reading comes to, by what was taken
 --   count_taken k r   the number taken, counted from 0001-01-01 (a time: from 00:00)
 --   value_taken k r   the value of what was taken

@@ -1,6 +1,6 @@
 -- The day number of a value in range, as the binary writers ask for it: one look at the calendar tests the date too.
 --
---   ranged r             what `day_in_range` answers: the day number, or refusal 2
+--   ranged r               what `day_in_range` answers: the day number, or refusal 2
 --   day_where_ranged k v   what it should be: 0 where the kind has no date
 use Rattle.std.specs.Prelude.{ℕ}
 use Rattle.format.specs.Words.{if_any, Outcome, accepted, refused, unless}

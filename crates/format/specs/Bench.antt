@@ -2,7 +2,7 @@
 --
 --   bench           the fifteen bench cases A to O, in order: kind, settings, value, and the octets or the refusal that must come
 --   Fifteen         every case comes to what the table says
---   lengths_of k     a kind's text lengths, for digits 0 to 6
+--   lengths_of k    a kind's text lengths, for digits 0 to 6
 --   TextLengths     they are those that 01 lists
 --   NamedDays       the day numbers that 01 names
 --   ascii "12:00"   the octets of a text

@@ -1,13 +1,13 @@
 -- Dates: the proleptic Gregorian calendar of the years 1 to 9999, by counting. (01, Values and settings: Date.)
 --
---   leap y           y is a leap year
---   year_length k     the days of year k + 1
---   year_start i      the days before year i + 1 of a cycle of 400 years, by 01's formula
---   month_length l k  the days of month k + 1, in a leap year (l) or a common one; 0 where there is no such month
---   is_day d          there is such a day
---   day_number d      how many days lie before d, from 0001-01-01 on
---   day_of n          the day with n days before it, for an n up to the last day's number
---   number_asked d    what the calendar answers when asked for a day number, and day_asked n when asked for a day
+--   leap y             y is a leap year
+--   year_length k      the days of year k + 1
+--   year_start i       the days before year i + 1 of a cycle of 400 years, by 01's formula
+--   month_length l k   the days of month k + 1, in a leap year (l) or a common one; 0 where there is no such month
+--   is_day d           there is such a day
+--   day_number d       how many days lie before d, from 0001-01-01 on
+--   day_of n           the day with n days before it, for an n up to the last day's number
+--   number_asked d     what the calendar answers when asked for a day number, and day_asked n when asked for a day
 use Rattle.std.specs.Prelude.{ℕ, ◌+◌, ◌-◌, ◌*◌, ◌/◌, ◌%◌, List, [], ◌∷◌, Bool, not, leb, eqb, get_or}
 use Rattle.format.specs.Words.{pick, both, either, Outcome, accepted, unless}
 use Rattle.format.specs.Walk.{sum_from, Place, place}

@@ -1,16 +1,16 @@
 -- The compact form, written: two octets of offset where it is carried, then one number as a BER integer. (01, Compact.)
 --
 --   millis_per_day, epoch     86,400,000; the day number of 2020-01-01
---   per_day k                a day's units: its milliseconds where there is a time, else the day itself
---   start k                 2020-01-01T00:00 in these units, since 0001-01-01; 0 where there is no date
---   count k v               the value in these units, since 0001-01-01
---   number k v              the number that is written: the same since 2020-01-01, so negative before it
---   greatest k front        the greatest number that is written; `front`: behind an offset
---   carried k v             the offset is written in front
---   has_compact k v          the value has a compact form
---   padded_to k front        the number takes at least so many octets
---   number_octets k front x  how many octets the number x takes: as few as hold it, but no fewer than that
---   compact_image k v        the octets
+--   per_day k                 a day's units: its milliseconds where there is a time, else the day itself
+--   start k                   2020-01-01T00:00 in these units, since 0001-01-01; 0 where there is no date
+--   count k v                 the value in these units, since 0001-01-01
+--   number k v                the number that is written: the same since 2020-01-01, so negative before it
+--   greatest k front          the greatest number that is written; `front`: behind an offset
+--   carried k v               the offset is written in front
+--   has_compact k v           the value has a compact form
+--   padded_to k front         the number takes at least so many octets
+--   number_octets k front x   how many octets the number x takes: as few as hold it, but no fewer than that
+--   compact_image k v         the octets
 use Rattle.std.specs.Prelude.{ℕ, ◌+◌, ◌*◌, ◌/◌, max, List, ◌++◌, Bool, not, ℤ, nat_abs, leb, eqb}
 use Rattle.std.proofs.Math.IntN.{sub_ℕ}
 use Rattle.format.specs.Words.{pick, both, needs, if_any}

@@ -1,12 +1,12 @@
 -- The compact form, read. (01, Compact, How a reader chooses, Refusal numbers.)
 --
---   longest k                   up to so many octets are read as compact
---   shortest k                  and from so many on they have a length that compact can have
+--   longest k                    up to so many octets are read as compact
+--   shortest k                   and from so many on they have a length that compact can have
 --   longest_plain k              the most octets that a number without an offset takes
 --   carried_in k n               n octets have an offset in front
 --   not_before b x, counted b x  b + x is not below zero; and b + x
---   number_in_range k front x     the number is that of a value
---   usual k front o n x         n octets are as many as x takes, and the offset o in front is one that is written
+--   number_in_range k front x    the number is that of a value
+--   usual k front o n x          n octets are as many as x takes, and the offset o in front is one that is written
 --   compact_value k n o          the value of a count n since 0001-01-01 and an offset
 --   read_compact k s             what reading s as compact comes to
 use Rattle.std.specs.Prelude.{ℕ, suc, ◌+◌, ◌-◌, ◌*◌, List, Bool, true, not, ℤ, pos, negsuc, nat_abs, leb, ltb, eqb, length, take, drop}

@@ -1,11 +1,11 @@
 -- The three either-or readers. (01, How a reader chooses: either-or, first rule that fits; 02, request 1.)
 --
---   Family           Date or DateTz; Time or TimeTz; Datetime or DatetimeTz
+--   Family            Date or DateTz; Time or TimeTz; Datetime or DatetimeTz
 --   kind_by01 f s     the kind by 01's rules alone
 --   kind_in f s       the kind that is chosen: by 01's rules and the rule of request 1
 --   read_either f s   what the either-or reader answers
 --   family_of k       the family of a kind, and plain_of k its plain kind
---   excepted k f v   the exception of demand 3: what is written so does not read back as its own kind
+--   excepted k f v    the exception of demand 3: what is written so does not read back as its own kind
 use Rattle.std.specs.Prelude.{ℕ, List, Bool, false, not, nat_abs, leb, eqb, length, get_or}
 use Rattle.format.specs.Words.{pick, both, either, Outcome}
 use Rattle.format.specs.Values.{Kind, Date, DateTz, Time, TimeTz, Datetime, DatetimeTz, timed, zoned, Value, Form, text, compact, extended, Answer}

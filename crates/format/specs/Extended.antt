@@ -1,7 +1,7 @@
 -- The extended form: two header octets, the day number in 3 where there is a date, the microseconds of the day in 5. (01, Extended.)
 --
 --   head_bits k           the header's first four bits: 1000 plain, 1001 zoned
---   twelve k v           its other twelve: the offset in two's complement, or zeros
+--   twelve k v            its other twelve: the offset in two's complement, or zeros
 --   day_width k           the octets of the day number
 --   extended_image k v    the octets
 --   offset_from b         twelve bits as an offset: they are signed

@@ -1,11 +1,11 @@
 -- A row of text fields, each with a number. The row says how a text is laid out; writing and reading follow the same row.
 --
---   is_sign c         the octet is `+` (43) or `-` (45)
---   Field            so many digits; a separator and so many digits after it; a sign; or absent, where a kind has no such field
---   width, widths    how many octets a field, a row takes
---   put, puts        how a number, a row of numbers is written
---   fits_at, fit      whether what stands at a place fits the field, the row
---   says_at, says     the numbers that stand there
+--   is_sign c       the octet is `+` (43) or `-` (45)
+--   Field           so many digits; a separator and so many digits after it; a sign; or absent, where a kind has no such field
+--   width, widths   how many octets a field, a row takes
+--   put, puts       how a number, a row of numbers is written
+--   fits_at, fit    whether what stands at a place fits the field, the row
+--   says_at, says   the numbers that stand there
 use Rattle.std.specs.Prelude.{ℕ, suc, ◌+◌, List, [], ◌∷◌, ◌++◌, Bool, true, false, eqb, get_or}
 use Rattle.format.specs.Words.{pick, both, either}
 use Rattle.format.specs.Digits.{are_digits, number_at, digits_of}

@@ -1,13 +1,13 @@
 -- Numbers in octets, most significant first: unsigned, and two's complement as X.690 has it for BER integers.
 --
---   Octets s             every element of s is an octet, 0 to 255
+--   Octets s              every element of s is an octet, 0 to 255
 --   unsigned_octets n x   the last n octets of x, unsigned
 --   unsigned_at s at n    the unsigned number of the n octets of s from place `at` on
 --   signed_octets n x     the last n octets of x, in two's complement: more of them than x needs repeat its sign
 --   signed_of s           the number that the octets s stand for, in two's complement: its sign is the first bit
---   half n               n octets, one or more, hold the numbers from -half n to half n - 1
+--   half n                n octets, one or more, hold the numbers from -half n to half n - 1
 --   fewest_octets x       the fewest octets that hold x, at least one
---   tight s              s has no redundant sign octet
+--   tight s               s has no redundant sign octet
 use Rattle.std.specs.Prelude.{ℕ, zero, suc, ◌+◌, ◌-◌, ◌*◌, ◌/◌, ◌%◌, ◌^◌, ◌<◌, Bool, true, false, not, cond, List, [], ◌∷◌, ◌++◌, ℤ, pos, negsuc, ◌+ℤ◌, ◌*ℤ◌, ltb, eqb, get_or}
 use Rattle.std.specs.Int.Signed.{mag}
 use Rattle.format.specs.Words.{both}

@@ -1,8 +1,8 @@
 -- What promises are made of, for any call.
 --
---   number_of o      the refusal's number, 0 for none
---   count_of o       the count of octets, 0 after a refusal
---   OneAnswer P     no two different answers meet the promise P
+--   number_of o   the refusal's number, 0 for none
+--   count_of o    the count of octets, 0 after a refusal
+--   OneAnswer P   no two different answers meet the promise P
 use Rattle.std.specs.Prelude.{ℕ, ◌≡◌}
 use Rattle.format.specs.Words.{Outcome, accepted, refused}
 

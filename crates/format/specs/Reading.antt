@@ -4,7 +4,7 @@
 --   form_in k s     the form that is chosen
 --   read_in k f s   what reading s in that form comes to: the first of 5, 6, 7, 8 that applies, each over the whole input before the next
 --   read_as k f s   the same, with the answer under its kind and form
---   read k s       the same in the form that is chosen
+--   read k s        the same in the form that is chosen
 use Rattle.std.specs.Prelude.{ℕ, ◌/◌, List, leb, eqb, length, get_or}
 use Rattle.format.specs.Words.{pick, both, Outcome, accepted, refused}
 use Rattle.format.specs.Values.{Kind, timed, Value, Form, text, compact, extended, Answer}

@@ -1,10 +1,10 @@
 -- The text form, written: ten fields in a row, of which a kind has some. (01, Text.)
 --
---   layout k d         the row for d fraction digits: the date if dated, `T` if dated and timed, the time if timed, the offset if zoned
---   text_length k d     its length
---   fraction_unit d     the unit of the last of d fraction digits, in microseconds
---   text_numbers k d v  the ten numbers of a value: year, month, day; hour, minute, second, fraction; sign, hours, minutes
---   text_image k d v    the octets
+--   layout k d           the row for d fraction digits: the date if dated, `T` if dated and timed, the time if timed, the offset if zoned
+--   text_length k d      its length
+--   fraction_unit d      the unit of the last of d fraction digits, in microseconds
+--   text_numbers k d v   the ten numbers of a value: year, month, day; hour, minute, second, fraction; sign, hours, minutes
+--   text_image k d v     the octets
 --
 -- Octets: 43 `+`, 45 `-`, 46 `.`, 58 `:`, 84 `T`.
 use Rattle.std.specs.Prelude.{ℕ, ◌-◌, ◌/◌, ◌%◌, ◌^◌, List, [], ◌∷◌, ◌++◌, Bool, not, nat_abs, eqb}

@@ -1,12 +1,12 @@
 -- The text form, read. (01, Text and Refusal numbers.) The fields are unchecked numbers until the whole row fits; then 7, then the ranges.
 --
---   digits_found k n      the number of fraction digits with which a text of this kind has n octets; 7 where there is none
---   Numbers, named       the ten numbers of a row by their names
---   minus_zero n          the offset is `-00:00`
+--   digits_found k n       the number of fraction digits with which a text of this kind has n octets; 7 where there is none
+--   Numbers, named         the ten numbers of a row by their names
+--   minus_zero n           the offset is `-00:00`
 --   clock_in_range n       hour, minute and second are in range; hour 24 only with nothing after it
 --   numbers_in_range k n   every number is
---   text_value d n        the value that the numbers say
---   read_text k d s       what reading s as a text with d digits comes to
+--   text_value d n         the value that the numbers say
+--   read_text k d s        what reading s as a text with d digits comes to
 use Rattle.std.specs.Prelude.{ℕ, zero, suc, ◌+◌, ◌*◌, List, Bool, true, false, not, pos, neg_ℤ, leb, eqb, get_or}
 use Rattle.format.specs.Words.{pick, both, either, needs, Outcome, accepted, unless}
 use Rattle.format.specs.Calendar.{Day, is_day}

@@ -1,14 +1,14 @@
 -- Values and settings: the six kinds, what a value of each has, what is in range, and how a writer can be set. (01, Values and settings.)
 --
---   dated, timed, zoned k   the kind has a date; a time; an offset
---   Value                   the parts of a value of any kind: a writer does not look at parts that the kind lacks; in an answer they are 0
---   end_of_day                24:00 in microseconds: the largest time, and not the same as 00:00
---   time_in_range, offset_in_range, inRange   a time is; an offset is; each part that the kind has is
---   Settings                binary or not; the version; the digits of a text's fraction (6 of them also ask for the extended form)
---   permitted t             the settings are ones that may be given
---   defaults                the settings where nothing is said
---   Form                    text with its number of fraction digits, compact, extended
---   Answer                  what a reader answers: kind, form and value
+--   dated, timed, zoned k        the kind has a date; a time; an offset
+--   Value                        the parts of a value of any kind: a writer does not look at parts that the kind lacks; in an answer they are 0
+--   end_of_day                   24:00 in microseconds: the largest time, and not the same as 00:00
+--   time_in_range, offset_in_range, in_range   a time is; an offset is; each part that the kind has is
+--   Settings                     binary or not; the version; the digits of a text's fraction (6 of them also ask for the extended form)
+--   permitted t                  the settings are ones that may be given
+--   defaults                     the settings where nothing is said
+--   Form                         text with its number of fraction digits, compact, extended
+--   Answer                       what a reader answers: kind, form and value
 use Rattle.std.specs.Prelude.{ℕ, Bool, true, false, ℤ, nat_abs, leb}
 use Rattle.format.specs.Words.{both, needs}
 use Rattle.format.specs.Calendar.{Day, is_day}

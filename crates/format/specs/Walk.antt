@@ -1,7 +1,7 @@
 -- For the calendar: stretches of given lengths, one after the other, such as the years or a year's months.
 --
 --   sum_from len k j   how much lies in the j stretches from the k-th on: len k + len (k + 1) + ..
---   place len f k n   in which stretch n lies, counted from the start of the k-th, and how far in; f more stretches are tried after it
+--   place len f k n    in which stretch n lies, counted from the start of the k-th, and how far in; f more stretches are tried after it
 use Rattle.std.specs.Prelude.{ℕ, zero, suc, ◌+◌, ◌-◌, true, false, ltb}
 
 unfoldable pub sum_from : (ℕ → ℕ) → ℕ → ℕ → ℕ

@@ -8,20 +8,20 @@
 --   List ℕ           octets, first to last: `[]` none, `x ∷ s` x and then s, `a ++ b` a and then b
 --   length s         how many; `get_or s i 0` the one at place i, from 0 on; `take n s` the first n, `drop n s` the others
 --   Bool             a test's outcome: `leb a b` is a ≤ b, `ltb a b` is a < b, `eqb a b` is a = b, `not t` the opposite
---   v.date.year    a part of a part of v; `record { .. }` lists the parts
+--   v.date.year      a part of a part of v; `record { .. }` lists the parts
 --   let n = a in b   b, where n stands for a
 --   cond t a b       a where the test t holds, else b; `elim t [ true ↦ a | false ↦ b ]` too, which computes only the one that is taken
 --   f a b            f of a and b; a definition's first line says what it takes and, behind the last arrow, what it gives
 --
 -- and of what this file adds:
 --
---   pick t a b       a where the test t holds, else b
---   both, either     both tests hold; one of the two does
---   needs t u        where t holds, u has to
---   if_any t n        n where t holds, else 0
---   accepted a       a call is accepted, and comes to a
---   refused n        a call is refused with the number n
---   unless t n o     refused with n unless the test t holds; then o: a line for each test, in the order in which they are made
+--   pick t a b     a where the test t holds, else b
+--   both, either   both tests hold; one of the two does
+--   needs t u      where t holds, u has to
+--   if_any t n     n where t holds, else 0
+--   accepted a     a call is accepted, and comes to a
+--   refused n      a call is refused with the number n
+--   unless t n o   refused with n unless the test t holds; then o: a line for each test, in the order in which they are made
 --
 -- A definition has no hidden effect: it stands for what is right of its `=`, by cases where it has several lines.
 use Rattle.std.specs.Prelude.{Bool, true, false, ℕ}

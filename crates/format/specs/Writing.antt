@@ -1,9 +1,9 @@
 -- What a writer writes: the image in the chosen form, or the first refusal that applies. (01, Refusal numbers.)
 --
---   image_in k f v   the image of a value in a form
---   has_form k f v   the value has that form
---   encode_in k f v  what writing in that form comes to: 2, 3, or the image
---   encode k t v    what writing comes to: 1, or what it comes to in the chosen form; 4, the buffer, comes after all of them (`Buffer.antt`)
+--   image_in k f v    the image of a value in a form
+--   has_form k f v    the value has that form
+--   encode_in k f v   what writing in that form comes to: 2, 3, or the image
+--   encode k t v      what writing comes to: 1, or what it comes to in the chosen form; 4, the buffer, comes after all of them (`Buffer.antt`)
 use Rattle.std.specs.Prelude.{ℕ, List, Bool, true}
 use Rattle.format.specs.Words.{Outcome, accepted, unless}
 use Rattle.format.specs.Values.{Kind, Value, in_range, Settings, digits_in_range, Form, text, compact, extended}

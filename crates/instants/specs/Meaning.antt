@@ -1,9 +1,9 @@
 -- What the code's refusals and answers mean in the paper's terms.
 --
 --   refusal_number f   the number of a refusal: 2 or 9 (02, request 2)
---   found r           what `instant_of` and `Instant::add` answer: an instant's number, or the refusal's number and nothing else
---   apart r           what `Instant::difference` answers: microseconds, or the refusal's number and nothing else
---   stated r          what `Instant::at` and `restate` answer: a stamp, or the refusal's number and nothing else
+--   found r            what `instant_of` and `Instant::add` answer: an instant's number, or the refusal's number and nothing else
+--   apart r            what `Instant::difference` answers: microseconds, or the refusal's number and nothing else
+--   stated r           what `Instant::at` and `restate` answer: a stamp, or the refusal's number and nothing else
 use Rattle.std.specs.Prelude.{ℕ, ℤ}
 use Rattle.format.specs.Words.{Outcome, accepted, refused}
 use Rattle.format.specs.Values.{Value}

@@ -1,7 +1,7 @@
 -- What the code of this crate works with besides the definitions of `moments`.
 --
 --   two_days, five_days   so many days in microseconds
---   Restated r o        where r is a stamp, restating comes to it: o is what restating comes to
+--   Restated r o          where r is a stamp, restating comes to it: o is what restating comes to
 use Rattle.std.specs.Prelude.{◌≡◌, ℕ}
 use Rattle.format.specs.Words.{Outcome, accepted}
 use Rattle.format.specs.Values.{Value}

@@ -1,18 +1,18 @@
 -- Instants: the instant of a DatetimeTz value, which numbers are instants, and the stamp of an instant at an offset. (02, request 2.)
 -- `format/specs/Words.antt` has the legend of what is not ours; here also `a -ℤ b`, a less b, and `le_z a b`, a ≤ b, of integers.
 --
---   local_of v        the local reading of v: microseconds from 0001-01-01T00:00 on the stamp's own clock; 24:00 is the next day's start in it
---   minute           a minute in microseconds
---   ahead o          an offset of o minutes in microseconds, below 0 for a clock behind UTC
---   instant_of v      the instant of v: its local reading less its offset
+--   local_of v                   the local reading of v: microseconds from 0001-01-01T00:00 on the stamp's own clock; 24:00 is the next day's start in it
+--   minute                       a minute in microseconds
+--   ahead o                      an offset of o minutes in microseconds, below 0 for a clock behind UTC
+--   instant_of v                 the instant of v: its local reading less its offset
 --   least_instant, greatest_instant   the instants of 0001-01-01T00:00+23:59 and of 9999-12-31T24:00-23:59
---   is_instant i      i is an instant: one of the numbers from the least to the greatest. That these are the instants that some stamp has is
---                    claimed (`TheInstants`)
---   local_at i o      what a clock that is o minutes ahead of UTC reads at the instant i
---   end_of_years       the local reading of 10000-01-01T00:00, the first that no date has
---   in_years x        the local reading x is one of the years 1 to 9999
---   stamp_of n o      the value with local reading n and offset o, its time below 24:00
---   next_start v      the start of the day after v's, at v's offset
+--   is_instant i                 i is an instant: one of the numbers from the least to the greatest. That these are the instants that some stamp has is
+--                                claimed (`TheInstants`)
+--   local_at i o                 what a clock that is o minutes ahead of UTC reads at the instant i
+--   end_of_years                 the local reading of 10000-01-01T00:00, the first that no date has
+--   in_years x                   the local reading x is one of the years 1 to 9999
+--   stamp_of n o                 the value with local reading n and offset o, its time below 24:00
+--   next_start v                 the start of the day after v's, at v's offset
 use Rattle.std.specs.Prelude.{ℕ, suc, Bool, false, ℤ, pos, negsuc, neg_ℤ, ◌+ℤ◌, ◌-ℤ◌, ◌*ℤ◌, ltb}
 use Rattle.std.specs.Int.Signed.{le_z}
 use Rattle.format.specs.Words.{both}

@@ -1,12 +1,12 @@
 -- Words: numbers of up to 8 octets, stored and loaded in one go. The octets of such a number stand least significant first
 -- in a store or a load that the compiler makes one; the order is then turned by arithmetic, which it makes one instruction.
 --
---   low_octets n x    the last n octets of x, least significant first: a word as it is stored
---   word os          the number of the octets os, least significant first
---   two, four, five, eight s at   so many octets of s from a place on
---   Loads os s w     w is the number of the octets os, which stand in s: as s is octets, w is small
---   turned_two x      the two octets of x in the other order
---   turned_four x     the four
+--   low_octets n x               the last n octets of x, least significant first: a word as it is stored
+--   word os                      the number of the octets os, least significant first
+--   two, four, five, eight s at  so many octets of s from a place on
+--   Loads os s w                 w is the number of the octets os, which stand in s: as s is octets, w is small
+--   turned_two x                 the two octets of x in the other order
+--   turned_four x                the four
 use Rattle.std.specs.Prelude.{◌≡◌, ℕ, zero, suc, ◌+◌, ◌*◌, ◌/◌, ◌%◌, List, [], ◌∷◌, slice_index}
 use Rattle.format.specs.Octets.{Octets}
 

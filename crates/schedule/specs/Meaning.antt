@@ -3,8 +3,8 @@
 --   refusal_number f   the number of a refusal: 13, 14, 15, or one of document 01's
 --   full_reading r     what `read` answers: the number of records, or the refusal's number and the place, and nothing else
 --   record_from r      a record
---   found r           what `record_at` answers: a record, or the refusal's number and nothing else
---   asked r           what `holds` answers: the number read and what holds, or the refusal's number
+--   found r            what `record_at` answers: a record, or the refusal's number and nothing else
+--   asked r            what `holds` answers: the number read and what holds, or the refusal's number
 --   source_from x      one of two files
 --   part_from q        what `part_over` answers: a part of one of them
 use Rattle.std.specs.Prelude.{ℕ}

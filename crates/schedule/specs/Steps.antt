@@ -2,11 +2,11 @@
 --
 --   Says s g           the header of s is right, and g is what it says
 --   HeaderRead s r     what the header's reader answers: what it says, or that it is bad
---   fields_in s i       the fields of record i
+--   fields_in s i      the fields of record i
 --   right x e n last   the fields x are right behind a stamp that ended at e, with n stamp octets: else refusal 14
---   instant_in o        the instant of what was read
+--   instant_in o       the instant of what was read
 --   timed r            what reading a record's stamp answers
---   before_from b       what came before, in the paper's terms
+--   before_from b      what came before, in the paper's terms
 --   taken i t          record i, in the paper's terms
 --   stepped i r        what a step answers about record i
 --   shown t p n        what is shown of a record of a file of n records, at the place p
@@ -17,9 +17,9 @@
 --   Runs s t i b r     what such a run answers
 --   Walks s t r        what one from the front of a file with a right header answers
 --   EndsBy s e         what is known of the records passed, whatever the run was for
---   last_place s c n    the place of the last record of the channel c among the first n, from one
---   held_at s p         what holds, by its place
---   refused_ask f       the question's answer that is a refusal
+--   last_place s c n   the place of the last record of the channel c among the first n, from one
+--   held_at s p        what holds, by its place
+--   refused_ask f      the question's answer that is a refusal
 --   HeldIn s t c h     h is what the question answers, whatever the count
 use Rattle.std.specs.Prelude.{ℕ, zero, suc, ◌+◌, ◌-◌, ◌*◌, ◌≤◌, ◌<◌, ◌≡◌, Bool, true, false, List, ℤ, negsuc, nat_abs, leb, eqb, length}
 use Rattle.std.specs.Int.Signed.{le_z}

@@ -2,7 +2,7 @@
 --
 --   dated_row, timed_row, parted_row, zoned_row   what was read, as a row of numbers
 --   dated_to, timed_to, parted_to, zoned_to n r   the next cursor stands at n; of a refusal nothing is said
---   joined_to s at r      a `T` stands at `at`, and the next cursor behind it; of a refusal, that none stands there
+--   joined_to s at r             a `T` stands at `at`, and the next cursor behind it; of a refusal, that none stands there
 use Rattle.std.specs.Prelude.{◌≡◌, ℕ, ◌+◌, List, [], ◌∷◌, slice_index}
 use Rattle.format.specs.Words.{Outcome, accepted, refused}
 use Rattle.text.specs.Parts.{minus_of}

@@ -1,8 +1,8 @@
 -- What is read of a text in one go: a row of fields, or nothing. The legend:
 --
---   row_at fs s at       what reading the row fs at a place of s comes to: its numbers, or refusal 6 where it does not fit
---   part_at d s at       the same of d fraction digits behind their point: the microseconds
---   clean x six mask    no bit of x is set that `mask` has, and none once `six` is added
+--   row_at fs s at               what reading the row fs at a place of s comes to: its numbers, or refusal 6 where it does not fit
+--   part_at d s at               the same of d fraction digits behind their point: the microseconds
+--   clean x six mask             no bit of x is set that `mask` has, and none once `six` is added
 --   number_row, two_row, three_row   what a function answers, as a row of one, two, three numbers
 use Rattle.std.specs.Prelude.{ℕ, ◌+◌, ◌*◌, ◌%◌, ◌^◌, Bool, List, [], ◌∷◌, ◌==◌, bit_and}
 use Rattle.format.specs.Words.{both, Outcome, accepted, refused, unless}

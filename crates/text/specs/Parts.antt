@@ -1,8 +1,8 @@
 -- What the parts of a text mean. The legend:
 --
 --   clock_in_day m n u   minute m and second n are at most 59, and the microseconds u of the whole time at most a day
---   minus_of b          the number of a sign: 1 for `-`
---   offset_of z         the offset in minutes: the sign is that of the whole
+--   minus_of b           the number of a sign: 1 for `-`
+--   offset_of z          the offset in minutes: the sign is that of the whole
 use Rattle.std.specs.Prelude.{ℕ, ◌+◌, ◌*◌, Bool, ℤ, pos, neg_ℤ, nat_le}
 use Rattle.format.specs.Words.{pick, both}
 use Rattle.format.specs.Values.{time_in_range}

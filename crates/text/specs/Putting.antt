@@ -1,17 +1,17 @@
 -- What the text writers' functions promise one another, in the terms of `format`: the legend.
 --
---   date_octets b x       the octets of the date x, none where the kind has no date
---   clock_octets t b d x  the octets of the time x with d fraction digits, none where the kind has no time; `T` before it where it has a date
---   offset_octets z m     the octets of the offset m, none where the kind has no offset
+--   date_octets b x        the octets of the date x, none where the kind has no date
+--   clock_octets t b d x   the octets of the time x with d fraction digits, none where the kind has no time; `T` before it where it has a date
+--   offset_octets z m      the octets of the offset m, none where the kind has no offset
 --   year_month_day y m d   `yy-mm-dd`, of the year in its century
 --   hour_minute_second s   `hh:mm:ss`, of the seconds of the day
---   fraction_field d      a point and d digits, or nothing for no digits
---   PointDigits f w      the word w is an octet 0, a point and all six digits of f
---   sign_mark m           `+` or `-`, by the sign of m
+--   fraction_field d       a point and d digits, or nothing for no digits
+--   PointDigits f w        the word w is an octet 0, a point and all six digits of f
+--   sign_mark m            `+` or `-`, by the sign of m
 --   sign_hour_minute m a   the sign of m, then the a minutes as `hh:mm`
---   duo v                the two digits of v as a word: the tens in the low octet, and 48 not yet added to either
---   Duo v w              w is that word, and small
---   Sum e w              w is the sum e of such words at their places, and so small that the word of a text of zeros can be added
+--   duo v                  the two digits of v as a word: the tens in the low octet, and 48 not yet added to either
+--   Duo v w                w is that word, and small
+--   Sum e w                w is the sum e of such words at their places, and so small that the word of a text of zeros can be added
 --
 -- The first three are `format`'s rows, field by field; together they are a text's image (`proofs/Putting.antt`).
 use Rattle.std.specs.Prelude.{◌≡◌, ℕ, ◌+◌, ◌*◌, ◌/◌, ◌%◌, ◌≤◌, Bool, not, List, [], ◌∷◌, ◌++◌, ℤ, ◌==◌, unsigned_abs}

@@ -2,10 +2,10 @@
 --
 --   written_number r   the number of what a writer answered: 0, or the refusal's
 --   written_count r    its count of octets: 0 after a refusal
---   decoded d         a decoded stamp: kind, form with its digits, value
---   reading r         what a reader answered: the stamp, or the refusal's number and nothing else
---   parsed k r        the same of a form's reader, of the kind k
---   located r         what a reader answered that makes no date: the local reading and the offset, or the refusal's number
+--   decoded d          a decoded stamp: kind, form with its digits, value
+--   reading r          what a reader answered: the stamp, or the refusal's number and nothing else
+--   parsed k r         the same of a form's reader, of the kind k
+--   located r          what a reader answered that makes no date: the local reading and the offset, or the refusal's number
 --   local_in o         the local reading and the offset of what was read
 use Rattle.std.specs.Prelude.{ℕ, ℤ}
 use Rattle.format.specs.Words.{Outcome, accepted, refused}

@@ -1,4 +1,4 @@
--- `instant_of` meets its contract: its tests are those of `inRange`, and of a value in range the difference fits. Assumes nothing.
+-- `instant_of` meets its contract: its tests are those of `in_range`, and of a value in range the difference fits. Assumes nothing.
 use Rattle.std.proofs.Common.{◌≡◌, true, ◌-ℤ◌, sym, ap, ◌∙◌, arith, to_z-of_z, w64, SFits, to_z, of_z}
 use borrow.Author.Rules.{sfits_of}
 use Rattle.format.specs.Calendar.{is_day, day_number}

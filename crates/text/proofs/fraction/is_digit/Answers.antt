@@ -1,4 +1,4 @@
--- `is_digit_lem` meets its contract: the two tests, in the definition's order. Assumes nothing.
+-- `is_digit` meets its contract: the two tests, in the definition's order. Assumes nothing.
 use Rattle.std.proofs.Common.{le-leb}
 use borrow.Author.Tests.{lt-leb}
 use Rattle.text.proofs.fraction.is_digit.Goals as goal
