@@ -12,7 +12,7 @@
 --   instant_of v                 the instant of a DatetimeTz (`moments/specs/Instant.antt`)
 --   Alike a b                    two answers that hold the same, or two refusals
 --   ChoosesPart p m i c q        what `part_over` promises (`schedule/specs/Calls.antt`): q is its answer, in numbers
---   HandsBack P M i c r          what `over` promises: r is the part of the files P and M that are lent. `now r` are its octets, `ptr r` is where it stands: a memory and a
+--   HandsBack P M i c r          what `over` promises: r is the part of the files P and M that are lent. `r.now` are its octets, `r.ref_ptr` is where it stands: a memory and a
 --                                place there
 --   PartOf S a n r               r is n octets of the lent file S from a on, where they stand
 --   OverForC                     what the C function promises (`boundary/specs/Files.antt`)

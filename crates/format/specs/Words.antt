@@ -3,11 +3,13 @@
 --
 --   ℕ                a number 0, 1, 2, ..: `/` rounds down, `%` is what is over, `^` is a power, and `a - b` is 0 where b is greater;
 --                    `zero` is 0, `suc n` is n + 1, `max a b` the greater one
---   ℤ                an integer: `pos n` is n, `negsuc n` is -(n + 1); `nat_abs x` is its size, `non_neg x` says that it is not below 0,
---                    `mag x` is n of n and of -(n + 1), `sub_ℕ a b` is a - b, `neg_ℤ x` is -x, `+ℤ` and `*ℤ` are sum and product
+--   ℤ                an integer: `pos n` is n, `negsuc n` is -(n + 1); `nat_abs x`, or `unsigned_abs x`, is its size, `non_neg x` says that it is not
+--                    below 0, `mag x` is n of n and of -(n + 1), `sub_ℕ a b` is a - b, `neg_ℤ x` is -x, `+ℤ` and `*ℤ` are sum and product
 --   List ℕ           octets, first to last: `[]` none, `x ∷ s` x and then s, `a ++ b` a and then b
---   length s         how many; `get_or s i 0` the one at place i, from 0 on; `take n s` the first n, `drop n s` the others
---   Bool             a test's outcome: `leb a b` is a ≤ b, `ltb a b` is a < b, `eqb a b` is a = b, `not t` the opposite
+--   length s         how many; `get_or s i 0`, or `slice_index s i`, the one at place i, from 0 on; `take n s` the first n, `drop n s` the others;
+--                    `slice_set s i x` is s with x at place i
+--   Bool             a test's outcome: `leb a b`, or `nat_le a b`, is a ≤ b; `ltb a b`, or `nat_lt a b`, is a < b; `eqb a b`, or `a == b`, is a = b;
+--                    `not t` the opposite
 --   v.date.year      a part of a part of v; `record { .. }` lists the parts
 --   let n = a in b   b, where n stands for a
 --   cond t a b       a where the test t holds, else b; `elim t [ true ↦ a | false ↦ b ]` too, which computes only the one that is taken
