@@ -2,10 +2,10 @@
 // standard output. `parse` says how a case is written, `answers`, `utc` and `schedules` how its answer is.
 #![tactic(auto)]
 
-ghost use Rattle.std.specs.Prelude.{◌≤◌, length};
+ghost use Rattle.std.specs.Prelude.{◌≤◌, length, IfOk};
 
 use std::io;
-use std::io::{BufWriter, Read, Write};
+use std::io::{Read, Write};
 
 mod answers;
 mod fields;
@@ -75,21 +75,36 @@ fn print_answers(to: &mut impl Write, cases: &[u8]) -> io::Result<()> {
     Ok(())
 }
 
-fn answer_all(to: &mut impl Write, cases: &[u8]) -> io::Result<()> {
-    if cases.len() == MOST_OCTETS {
-        return show::text(to, b"the cases have no room\n");
+// Reads until the space is full or the input ends, and answers how many octets there are.
+fn read_full(from: &mut impl Read, space: &mut [u8]) -> io::Result<usize>
+    ensures { IfOk result (λ count. count ≤ length space.new) }
+{
+    let mut count = 0;
+    while count < space.len() {
+        let read = from.read(&mut space[count..])?;
+        if read == 0 {
+            return Ok(count);
+        }
+        count += read;
     }
-    print_answers(to, cases)
+    Ok(count)
 }
 
-fn answer_in(rt: &(impl Input + Print + AllocGlobal), space: &mut Vec<u8>) -> io::Result<()> {
-    rt.reader().take(MOST_OCTETS as u64).read_to_end(space)?;
-    let mut out = BufWriter::new(rt.alloc(), io::writer(rt))?;
-    answer_all(&mut out, space.as_slice())?;
-    out.flush()
+fn answer_all(rt: &(impl Input + Print), space: &mut [u8]) -> io::Result<()> {
+    let mut to = io::writer(rt);
+    let count = read_full(&mut rt.reader(), space)?;
+    if count == space.len() {
+        return show::text(&mut to, b"the cases have no room\n");
+    }
+    print_answers(&mut to, &space[..count])
+}
+
+// Takes the array by its type, which says its length: in `main` a proof would have to count its zeros.
+fn answer_in(rt: &(impl Input + Print), space: &mut [u8; MOST_OCTETS]) -> io::Result<()> {
+    answer_all(rt, space)
 }
 
 fn main(rt: HostRuntime) -> io::Result<()> {
-    let mut space = Vec::new(rt.alloc());
+    let mut space = [0u8; MOST_OCTETS];
     answer_in(&rt, &mut space)
 }
