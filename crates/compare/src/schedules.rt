@@ -96,7 +96,7 @@ fn put_part(out: &mut [u8], part: Part, octets: &[u8]) -> usize {
     line::octets(out, after_space, octets)
 }
 
-// ---- the cases: `space` is for the octets of the file, and taken by its type, which says its length: where it is made, a proof would have to count its zeros
+// ---- the cases: `space` is for the octets of the file, and taken by its type as in `main`
 
 fn full_in(out: &mut [u8], case: &[u8], space: &mut [u8; MOST_OCTETS]) -> usize {
     let Octets::Read(count) = parse::take_octets(case, 1, space) else {
