@@ -5,10 +5,8 @@ use Rattle.boundary.proofs.stamp_read.Goals as goal
 
 pub returns-in_default : goal.returns-in_default
 returns-in_default c =
-    let k = c in
-    rw c.number.ensures (keeps _ _ _ (refused 2) (rw c.in_default.is at k.kind_in.ensures))
+    rw c.number.ensures (keeps _ _ _ (refused 2) (rw c.in_default.is at c.kind_in.ensures))
 
 pub returns : goal.returns
 returns c =
-    let k = c in
-    rw (← (rw k.in-Kind.is at k.kind_in.ensures)) c.hand_known.ensures
+    rw (← (rw c.in-Kind.is at c.kind_in.ensures)) c.hand_known.ensures

@@ -9,16 +9,12 @@ use Rattle.boundary.proofs.write_numbered.Goals as goal
 
 pub returns-then-not-in_range : goal.returns-then-not-in_range
 returns-then-not-in_range c =
-    let k = c in
-    rw (writing_at _ _ _ (refused 2) (sym (ap known k.in_default.is) ∙ k.kind_of.ensures), sym c.in_range.ensures ∙ not_true _ c.if-not-in_range.true-raw) (refuses 1 _)
+    rw (writing_at _ _ _ (refused 2) (sym (ap known c.in_default.is) ∙ c.kind_of.ensures), sym c.in_range.ensures ∙ not_true _ c.if-not-in_range.true-raw) (refuses 1 _)
 
 pub returns-in_default : goal.returns-in_default
 returns-in_default c =
-    let k = c in
-    rw (writing_at _ _ _ (refused 2) (sym (ap known k.in_default.is) ∙ k.kind_of.ensures), sym c.in_range.ensures ∙ not_false _ c.if-not-in_range.false-raw) (refuses 2 _)
+    rw (writing_at _ _ _ (refused 2) (sym (ap known c.in_default.is) ∙ c.kind_of.ensures), sym c.in_range.ensures ∙ not_false _ c.if-not-in_range.false-raw) (refuses 2 _)
 
 pub returns : goal.returns
 returns c =
-    let w = c in
-    let k = w in
-    rw (writing_at _ _ _ (accepted _) (sym (ap known k.in-Kind.is) ∙ k.kind_of.ensures)) w.write_known.ensures
+    rw (writing_at _ _ _ (accepted _) (sym (ap known c.in-Kind.is) ∙ c.kind_of.ensures)) c.write_known.ensures

@@ -59,13 +59,12 @@ returns-then-not-in_range-2 c =
 pub local_reading-requires : goal.local_reading-requires
 local_reading-requires c =
     let day : (let v = c.args.stamp in (is_day (day_from v.date) ≡ true) × (day_number (day_from v.date) ≡ c.in-Day.day)) = let v = c.args.stamp in
-    let d = c in
-    day_known (day_from v.date) d.in-Day.day (ap number_answered (sym d.in-Day.is) ∙ d.day_number.ensures) in
+    day_known (day_from v.date) c.in-Day.day (ap number_answered (sym c.in-Day.is) ∙ c.day_number.ensures) in
     let time : time_in_range c.args.stamp.time.micros ≡ true = sym c.in_range.ensures ∙ not_false _ c.if-not-in_range.false-raw in
     let v = c.args.stamp in
     let n = number_small (day_from v.date) day.0 in
     let e = day.1 in
-    let t = time_small v.time.micros (time) in
+    let t = time_small v.time.micros time in
     (omega arith, omega arith)
 
 pub ahead_of_utc-requires : goal.ahead_of_utc-requires

@@ -25,6 +25,5 @@ pub returns : goal.returns
 unfolding restate
 returns c =
     let v = datetime_tz_value c.args.stamp in
-    let d = c in
-    let k = instant_had v d.in-Instant.instant.micros (sym d.instant_of.ensures ∙ ap found d.in-Instant.is) in
+    let k = instant_had v c.in-Instant.instant.micros (sym c.instant_of.ensures ∙ ap found c.in-Instant.is) in
     rw (k.0, k.1) c.at.ensures

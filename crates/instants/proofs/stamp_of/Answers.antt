@@ -7,12 +7,10 @@ use Rattle.instants.proofs.stamp_of.Goals as goal
 
 pub returns-in_default : goal.returns-in_default
 returns-in_default c =
-    let d = c in
-    rw (past_years d.args.local (ap day_answered (sym c.in_default.is) ∙ d.date_of.ensures))
+    rw (past_years c.args.local (ap day_answered (sym c.in_default.is) ∙ c.date_of.ensures))
 
 pub returns : goal.returns
 unfolding stamp_of
 returns c =
-    let d = c in
-    let k = date_known d.args.local (day_from c.in-Date.date) (ap day_answered (sym c.in-Date.is) ∙ d.date_of.ensures) in
+    let k = date_known c.args.local (day_from c.in-Date.date) (ap day_answered (sym c.in-Date.is) ∙ c.date_of.ensures) in
     rw (k.0, k.1, c.new-time.ensures)

@@ -5,7 +5,6 @@ use Rattle.instants.proofs.sum_modulo.Goals as goal
 
 pub returns : goal.returns
 returns c =
-    let s = c in
-    let a : to_z w64 (of_z w64 s.args.a) ≡ s.args.a = to_z-of_z s.ranges.a in
-    let b : to_z w64 (of_z w64 s.args.b) ≡ s.args.b = to_z-of_z s.ranges.b in
-    c.wrapping_add_u64.ensures.value ∙ rw (c.modulo.ensures, c.modulo-2.ensures, a, b) (modulo_sum s.args.a s.args.b s.ranges.a.sfits s.ranges.b.sfits)
+    let a : to_z w64 (of_z w64 c.args.a) ≡ c.args.a = to_z-of_z c.ranges.a in
+    let b : to_z w64 (of_z w64 c.args.b) ≡ c.args.b = to_z-of_z c.ranges.b in
+    c.wrapping_add_u64.ensures.value ∙ rw (c.modulo.ensures, c.modulo-2.ensures, a, b) (modulo_sum c.args.a c.args.b c.ranges.a.sfits c.ranges.b.sfits)

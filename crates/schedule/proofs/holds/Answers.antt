@@ -1,7 +1,6 @@
 -- `holds` meets its contract: the walk up to the instant, and the last record of the channel that it passed. Assumes nothing.
 -- ---- what header and walk told
 use mathlib.Core.Path.{◌≡◌, sym, ap, ◌∙◌}
-use mathlib.Core.Bool.{true}
 use Prim.Native.Nat.{◌<◌}
 use native.Mathlib.Omega.{arith}
 use mir.Syntax.{w64}
@@ -10,7 +9,6 @@ use borrow.Author.Rules.{sfits_of}
 use Rattle.format.specs.Words.{accepted}
 use Rattle.format.proofs.Cases.{not_true, not_false}
 use Rattle.card.specs.Header.{twelve}
-use Rattle.card.specs.Step.{channel_good}
 use Rattle.card.specs.Question.{question, held_in_file}
 use Rattle.card.proofs.Asking.{bad_channel}
 use Rattle.schedule.specs.declared.header.Header.TheVariants as H
@@ -21,6 +19,19 @@ use Rattle.schedule.proofs.Finding.{records_fit, last_place_le, held_shown}
 use Rattle.schedule.proofs.Answers.{ends_by, asked_ended, asked_faulty, asks_refused, asks_none, asks_record}
 use borrow.Author.Rules.{rules}
 use Rattle.schedule.proofs.holds.Goals as goal
+use Rattle.schedule.proofs.holds.Goals.{After-last_of-place}
+
+-- what header and walk told, with the place that was sought
+walked : (c : After-last_of-place) → Walks c.args.file.now c.args.instant.micros (W.Ended c.in-Ended.ended)
+walked c = rw (c.in-Ended.is, to_z-of_z {w = w64} {z = c.args.instant.micros} (sfits_of (search rules))) at c.up_to.ensures
+
+answer : (c : After-last_of-place)
+    → (let a = c.args in question twelve a.file.now a.instant.micros a.channel
+    ≡ accepted (record { read = c.in-Ended.ended.read; held = held_in_file twelve a.file.now (held_at a.file.now c.last_of-place.result) }))
+answer c =
+    let a = c.args in
+    let w = walked c in
+    rw c.last_of-place.ensures (asked_ended a.file.now a.instant.micros a.channel _ w.0 (sym c.is_channel.ensures ∙ not_false _ c.if-not-is_channel.false-raw) w.1)
 
 pub returns-then-not-is_channel : goal.returns-then-not-is_channel
 returns-then-not-is_channel c =
@@ -52,42 +63,26 @@ last_of-place-requires c =
 
 pub returns-then-place-eq0 : goal.returns-then-place-eq0
 returns-then-place-eq0 c =
-    let walked : (let a = c.args in Walks a.file.now a.instant.micros (W.Ended c.in-Ended.ended)) = let a = c.args in
-    rw (c.in-Ended.is, to_z-of_z {w = w64} {z = a.instant.micros} (sfits_of (search rules))) at c.up_to.ensures in
-    let good : channel_good c.args.channel ≡ true = sym c.is_channel.ensures ∙ not_false _ c.if-not-is_channel.false-raw in
-    let answer : (let a = c.args in question twelve a.file.now a.instant.micros a.channel
-    ≡ accepted (record { read = c.in-Ended.ended.read; held = held_in_file twelve a.file.now (held_at a.file.now c.last_of-place.result) })) = let a = c.args in
-    let w = walked in
-    rw c.last_of-place.ensures (asked_ended a.file.now a.instant.micros a.channel _ w.0 (good) w.1) in
     let a = c.args in
     let n = c.in-Ended.ended.read in
     asks_none a.file.now a.instant a.channel _
-    (answer ∙ ap (λ p. accepted (record { read = n; held = held_in_file twelve a.file.now (held_at a.file.now p) })) c.if-place-eq0.true)
+    (answer (goal.at.returns-then-place-eq0 c).After-last_of-place ∙ ap (λ p. accepted (record { read = n; held = held_in_file twelve a.file.now (held_at a.file.now p) })) c.if-place-eq0.true)
 
 pub shown-kept-requires : goal.shown-kept-requires
 shown-kept-requires c =
-    let says : Says c.args.file.now c.in-Good.regions = rw c.in-Good.is at c.read.ensures in
-    let walked : (let a = c.args in Walks a.file.now a.instant.micros (W.Ended c.in-Ended.ended)) = let a = c.args in
-    rw (c.in-Ended.is, to_z-of_z {w = w64} {z = a.instant.micros} (sfits_of (search rules))) at c.up_to.ensures in
-    let some : 0 < c.last_of-place.result = omega (arith, c.if-place-eq0.false) in
     let a = c.args in
+    let says : Says a.file.now c.in-Good.regions = rw c.in-Good.is at c.read.ensures in
+    let some : 0 < c.last_of-place.result = omega (arith, c.if-place-eq0.false) in
     let l = last_place_le a.file.now a.channel c.in-Ended.ended.passed in
-    (says, ends_by a.file.now a.instant.micros _ walked.0, some, omega (arith, c.last_of-place.ensures, l))
+    (says, ends_by a.file.now a.instant.micros _ (walked (goal.at.shown-kept-requires c).After-last_of-place).0, some, omega (arith, c.last_of-place.ensures, l))
 
 pub returns-else-place-eq0 : goal.returns-else-place-eq0
 returns-else-place-eq0 c =
-    let walked : (let a = c.args in Walks a.file.now a.instant.micros (W.Ended c.in-Ended.ended)) = let a = c.args in
-    rw (c.in-Ended.is, to_z-of_z {w = w64} {z = a.instant.micros} (sfits_of (search rules))) at c.up_to.ensures in
-    let good : channel_good c.args.channel ≡ true = sym c.is_channel.ensures ∙ not_false _ c.if-not-is_channel.false-raw in
-    let answer : (let a = c.args in question twelve a.file.now a.instant.micros a.channel
-    ≡ accepted (record { read = c.in-Ended.ended.read; held = held_in_file twelve a.file.now (held_at a.file.now c.last_of-place.result) })) = let a = c.args in
-    let w = walked in
-    rw c.last_of-place.ensures (asked_ended a.file.now a.instant.micros a.channel _ w.0 (good) w.1) in
-    let some : 0 < c.last_of-place.result = omega (arith, c.if-place-eq0.false) in
     let a = c.args in
     let n = c.in-Ended.ended.read in
-    let h = held_shown a.file.now _ _ (some) c.shown-kept.ensures in
-    asks_record a.file.now a.instant a.channel _ _ (answer ∙ ap (λ x. accepted (record { read = n; held = x })) (sym h))
+    let some : 0 < c.last_of-place.result = omega (arith, c.if-place-eq0.false) in
+    let h = held_shown a.file.now _ _ some c.shown-kept.ensures in
+    asks_record a.file.now a.instant a.channel _ _ (answer (goal.at.returns-else-place-eq0 c).After-last_of-place ∙ ap (λ x. accepted (record { read = n; held = x })) (sym h))
 
 pub returns-in-Refused : goal.returns-in-Refused
 returns-in-Refused c =

@@ -9,20 +9,15 @@ use Rattle.boundary.proofs.handing.hand_date_tz.Goals as goal
 
 pub returns-in_default : goal.returns-in_default
 returns-in_default c =
-    let told = c in
-    let r = told in
-    absurd (no_other DateTz _ told.in-Stamp.stamp (λ i. omega (arith, r.type_inv.octets i)) (sym (ap reading told.in-Stamp.is) ∙ r.read_date_tz.ensures) (opened c.in_default.in_default-own.keys2))
+    absurd (no_other DateTz _ c.in-Stamp.stamp (λ i. omega (arith, c.type_inv.octets i)) (sym (ap reading c.in-Stamp.is) ∙ c.read_date_tz.ensures) (opened c.in_default.in_default-own.keys2))
 
 pub put_parts-requires : goal.put_parts-requires
 put_parts-requires c = rw c.new-time.ensures (omega arith)
 
 pub returns-in-DateTz : goal.returns-in-DateTz
 returns-in-DateTz c =
-    let answer = c in
-    let told = answer in
-    rw (← told.read_date_tz.ensures, told.in-Stamp.is, answer.in-DateTz.is) (record { number = refl; parts = rw c.new-time.ensures at c.put_parts.ensures })
+    rw (← c.read_date_tz.ensures, c.in-Stamp.is, c.in-DateTz.is) (record { number = refl; parts = rw c.new-time.ensures at c.put_parts.ensures })
 
 pub returns-in-Refused : goal.returns-in-Refused
 returns-in-Refused c =
-    let told = c in
-    rw (← told.read_date_tz.ensures, told.in-Refused.is) (record { number = c.number.ensures; parts = refl })
+    rw (← c.read_date_tz.ensures, c.in-Refused.is) (record { number = c.number.ensures; parts = refl })

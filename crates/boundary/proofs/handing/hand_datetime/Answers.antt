@@ -9,24 +9,16 @@ use Rattle.boundary.proofs.handing.hand_datetime.Goals as goal
 
 pub returns-in_default : goal.returns-in_default
 returns-in_default c =
-    let told = c in
-    let r = told in
-    absurd (no_other Datetime _ told.in-Stamp.stamp (λ i. omega (arith, r.type_inv.octets i)) (sym (ap reading told.in-Stamp.is) ∙ r.read_datetime.ensures) (opened c.in_default.in_default-own.keys2))
+    absurd (no_other Datetime _ c.in-Stamp.stamp (λ i. omega (arith, c.type_inv.octets i)) (sym (ap reading c.in-Stamp.is) ∙ c.read_datetime.ensures) (opened c.in_default.in_default-own.keys2))
 
 pub put_parts-requires : goal.put_parts-requires
 put_parts-requires c =
-    let answer = c in
-    let told = answer in
-    let r = told in
-    rw answer.in-Datetime.is at (in_day_lem Datetime _ told.in-Stamp.stamp (λ i. omega (arith, r.type_inv.octets i)) (sym (ap reading told.in-Stamp.is) ∙ r.read_datetime.ensures))
+    rw c.in-Datetime.is at (in_day_lem Datetime _ c.in-Stamp.stamp (λ i. omega (arith, c.type_inv.octets i)) (sym (ap reading c.in-Stamp.is) ∙ c.read_datetime.ensures))
 
 pub returns-in-Datetime : goal.returns-in-Datetime
 returns-in-Datetime c =
-    let answer = c in
-    let told = answer in
-    rw (← told.read_datetime.ensures, told.in-Stamp.is, answer.in-Datetime.is) (record { number = refl; parts = rw c.new-offset.ensures at c.put_parts.ensures })
+    rw (← c.read_datetime.ensures, c.in-Stamp.is, c.in-Datetime.is) (record { number = refl; parts = rw c.new-offset.ensures at c.put_parts.ensures })
 
 pub returns-in-Refused : goal.returns-in-Refused
 returns-in-Refused c =
-    let told = c in
-    rw (← told.read_datetime.ensures, told.in-Refused.is) (record { number = c.number.ensures; parts = refl })
+    rw (← c.read_datetime.ensures, c.in-Refused.is) (record { number = c.number.ensures; parts = refl })

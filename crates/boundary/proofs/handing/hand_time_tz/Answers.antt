@@ -9,24 +9,16 @@ use Rattle.boundary.proofs.handing.hand_time_tz.Goals as goal
 
 pub returns-in_default : goal.returns-in_default
 returns-in_default c =
-    let told = c in
-    let r = told in
-    absurd (no_other TimeTz _ told.in-Stamp.stamp (λ i. omega (arith, r.type_inv.octets i)) (sym (ap reading told.in-Stamp.is) ∙ r.read_time_tz.ensures) (opened c.in_default.in_default-own.keys2))
+    absurd (no_other TimeTz _ c.in-Stamp.stamp (λ i. omega (arith, c.type_inv.octets i)) (sym (ap reading c.in-Stamp.is) ∙ c.read_time_tz.ensures) (opened c.in_default.in_default-own.keys2))
 
 pub put_parts-requires : goal.put_parts-requires
 put_parts-requires c =
-    let answer = c in
-    let told = answer in
-    let r = told in
-    rw answer.in-TimeTz.is at (in_day_lem TimeTz _ told.in-Stamp.stamp (λ i. omega (arith, r.type_inv.octets i)) (sym (ap reading told.in-Stamp.is) ∙ r.read_time_tz.ensures))
+    rw c.in-TimeTz.is at (in_day_lem TimeTz _ c.in-Stamp.stamp (λ i. omega (arith, c.type_inv.octets i)) (sym (ap reading c.in-Stamp.is) ∙ c.read_time_tz.ensures))
 
 pub returns-in-TimeTz : goal.returns-in-TimeTz
 returns-in-TimeTz c =
-    let answer = c in
-    let told = answer in
-    rw (← told.read_time_tz.ensures, told.in-Stamp.is, answer.in-TimeTz.is) (record { number = refl; parts = rw c.new-date.ensures at c.put_parts.ensures })
+    rw (← c.read_time_tz.ensures, c.in-Stamp.is, c.in-TimeTz.is) (record { number = refl; parts = rw c.new-date.ensures at c.put_parts.ensures })
 
 pub returns-in-Refused : goal.returns-in-Refused
 returns-in-Refused c =
-    let told = c in
-    rw (← told.read_time_tz.ensures, told.in-Refused.is) (record { number = c.number.ensures; parts = refl })
+    rw (← c.read_time_tz.ensures, c.in-Refused.is) (record { number = c.number.ensures; parts = refl })

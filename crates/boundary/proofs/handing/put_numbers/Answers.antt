@@ -16,11 +16,8 @@ overflow_cast-minutes c =
 pub returns : goal.returns
 unfolding numbers_of
 returns c =
-    let y = c in
-    let k = y in
-    let s = k in
-    let d = s.args.date in
-    eight_kept _ s.args.form s.args.digits d.year d.month d.day s.args.time.micros s.args.offset.minutes
-    k.kind_number-kind.type_inv (search rules) (search rules)
-    y.struct_known-1.given.0.fits y.struct_known-1.given.1.0.fits y.struct_known-1.given.1.1.0.fits s.requires (sfits_of (search rules))
-    ∙ rw k.kind_number-kind.ensures
+    let d = c.args.date in
+    eight_kept _ c.args.form c.args.digits d.year d.month d.day c.args.time.micros c.args.offset.minutes
+    c.kind_number-kind.type_inv (search rules) (search rules)
+    c.struct_known-1.given.0.fits c.struct_known-1.given.1.0.fits c.struct_known-1.given.1.1.0.fits c.requires (sfits_of (search rules))
+    ∙ rw c.kind_number-kind.ensures

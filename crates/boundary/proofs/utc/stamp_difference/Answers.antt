@@ -16,10 +16,8 @@ answered c =
 
 pub returns-in-Micros : goal.returns-in-Micros
 returns-in-Micros c =
-    let t = c in
-    rw (← answered (goal.at.returns-in-Micros c).After-difference, t.in-Micros.is) (record { number = refl; handed = to_z-of_z {w = w64} (sfits_of (search rules)) })
+    rw (← answered (goal.at.returns-in-Micros c).After-difference, c.in-Micros.is) (record { number = refl; handed = to_z-of_z {w = w64} (sfits_of (search rules)) })
 
 pub returns-in-Refused : goal.returns-in-Refused
 returns-in-Refused c =
-    let t = c in
-    rw (← answered (goal.at.returns-in-Refused c).After-difference, t.in-Refused.is) (record { number = c.number.ensures; handed = refl })
+    rw (← answered (goal.at.returns-in-Refused c).After-difference, c.in-Refused.is) (record { number = c.number.ensures; handed = refl })

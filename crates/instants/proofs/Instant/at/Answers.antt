@@ -40,15 +40,11 @@ ahead_of_utc-requires c = offset-known (goal.at.ahead_of_utc-requires c).Else-no
 
 pub returns-in_default : goal.returns-in_default
 returns-in_default c =
-    let d = c in
-    let s = d in
     let e = ap stated (sym c.in_default.is) ∙ asked (goal.at.returns-in_default c).After-stamp_of in
-    rw c.no_stamp.ensures (sym (at_none s.args.self.micros s.args.offset.minutes (refusal_number c.in_default.field-0) (instant-fits (goal.at.returns-in_default c).Start) (offset-known (goal.at.returns-in_default c).Else-not-in_range) (sym e)))
+    rw c.no_stamp.ensures (sym (at_none c.args.self.micros c.args.offset.minutes (refusal_number c.in_default.field-0) (instant-fits (goal.at.returns-in_default c).Start) (offset-known (goal.at.returns-in_default c).Else-not-in_range) (sym e)))
 
 pub returns : goal.returns
 returns c =
-    let d = c in
-    let s = d in
     let v = c.in-Stamp.stamp in
     let e = ap stated (sym c.in-Stamp.is) ∙ asked (goal.at.returns c).After-stamp_of in
-    sym (at_stamp s.args.self.micros s.args.offset.minutes (datetime_tz_value v) (instant-fits (goal.at.returns c).Start) (offset-known (goal.at.returns c).Else-not-in_range) (sym e))
+    sym (at_stamp c.args.self.micros c.args.offset.minutes (datetime_tz_value v) (instant-fits (goal.at.returns c).Start) (offset-known (goal.at.returns c).Else-not-in_range) (sym e))

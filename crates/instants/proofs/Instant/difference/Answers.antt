@@ -22,11 +22,11 @@ overflow_sub-result c =
     let first : is_instant c.args.self.micros ≡ true = sym c.in_range.ensures ∙ not_false _ c.if-not-in_range.false-raw in
     let second : is_instant c.args.other.micros ≡ true = sym c.in_range-2.ensures ∙ not_false _ c.if-not-in_range-2.false-raw in
     let less-fits : (let a = c.args in SFits w64 (a.self.micros -ℤ a.other.micros)) = let a = c.args in
-    fits_less a.self.micros a.other.micros (first) (second) in
+    fits_less a.self.micros a.other.micros first second in
     let a = c.args in
     let x : to_z w64 (of_z w64 a.self.micros) ≡ a.self.micros = to_z-of_z {w = w64} (sfits_of (search rules)) in
     let y : to_z w64 (of_z w64 a.other.micros) ≡ a.other.micros = to_z-of_z {w = w64} (sfits_of (search rules)) in
-    rw (x, y) (less-fits)
+    rw (x, y) less-fits
 
 pub returns : goal.returns
 unfolding difference
@@ -34,8 +34,8 @@ returns c =
     let first : is_instant c.args.self.micros ≡ true = sym c.in_range.ensures ∙ not_false _ c.if-not-in_range.false-raw in
     let second : is_instant c.args.other.micros ≡ true = sym c.in_range-2.ensures ∙ not_false _ c.if-not-in_range-2.false-raw in
     let less-fits : (let a = c.args in SFits w64 (a.self.micros -ℤ a.other.micros)) = let a = c.args in
-    fits_less a.self.micros a.other.micros (first) (second) in
+    fits_less a.self.micros a.other.micros first second in
     let a = c.args in
     let x : to_z w64 (of_z w64 a.self.micros) ≡ a.self.micros = to_z-of_z {w = w64} (sfits_of (search rules)) in
     let y : to_z w64 (of_z w64 a.other.micros) ≡ a.other.micros = to_z-of_z {w = w64} (sfits_of (search rules)) in
-    rw (x, y, to_z-of_z (less-fits), first, second)
+    rw (x, y, to_z-of_z less-fits, first, second)

@@ -25,7 +25,7 @@ reads-read-requires c =
     let time : time_in_range c.args.stamp.time.micros ≡ true = sym c.in_range-2.ensures ∙ not_false _ c.if-not-in_range-2.false-raw in
     let offset : offset_in_range c.args.stamp.offset.minutes ≡ true = sym c.in_range-3.ensures ∙ not_false _ c.if-not-in_range-3.false-raw in
     let to : offset_in_range c.args.to.minutes ≡ true = sym c.in_range-4.ensures ∙ not_false _ c.if-not-in_range-4.false-raw in
-    (time_small _ (time), offset, to)
+    (time_small _ time, offset, to)
 
 pub whole_days-days-requires : goal.whole_days-days-requires
 whole_days-days-requires c = c.reads-read.ensures.1
@@ -33,9 +33,8 @@ whole_days-days-requires c = c.reads-read.ensures.1
 pub overflow_cast-day-2 : goal.overflow_cast-day-2
 overflow_cast-day-2 c =
     let day : is_day (day_from c.args.stamp.date) ≡ true = sym c.in_range.ensures ∙ not_false _ c.if-not-in_range.false-raw in
-    let e = c in
-    let d = day_from e.args.stamp.date in
-    let p = parts d (day) in
+    let d = day_from c.args.stamp.date in
+    let p = parts d day in
     let m = short_month (leap d.year) (d.month - 1) in
     record { fits = omega (arith, p.day_high, c.whole_days-days.ensures, c.reads-read.ensures.1) }
 
@@ -48,12 +47,11 @@ overflow_sub-read c = omega (arith, c.whole_days-days.ensures)
 pub returns : goal.returns
 returns c =
     let to : offset_in_range c.args.to.minutes ≡ true = sym c.in_range-4.ensures ∙ not_false _ c.if-not-in_range-4.false-raw in
-    let e = c in
     let r = c.reads-read in
     let w = c.whole_days-days.ensures in
-    let v = datetime_tz_value e.args.stamp in
+    let v = datetime_tz_value c.args.stamp in
     let d = sym c.in_range-5.ensures ∙ not_false _ c.if-not-in_range-5.false-raw in
     let m : r.result - r.result / 86400000000 * 86400000000 ≡ r.result % 86400000000 = omega arith in
     let i = rw (c.new-date.ensures, w) at d in
     let k = rw w at c.if-day-lt3.false in
-    rw (c.new-date.ensures, c.new-time.ensures, w, m) (stays v _ r.result (in_range_lem (goal.at.returns c).Else-not-in_range-4) (to) k i r.ensures.0)
+    rw (c.new-date.ensures, c.new-time.ensures, w, m) (stays v _ r.result (in_range_lem (goal.at.returns c).Else-not-in_range-4) to k i r.ensures.0)

@@ -13,13 +13,9 @@ returns-then-stamp-longest c = rw (as_compact DatetimeTz _ (rw c.longest.ensures
 pub returns-then-stamp-head_bits : goal.returns-then-stamp-head_bits
 unfolding first_bits head_bits
 returns-then-stamp-head_bits c =
-    let e = c in
-    let l = e in
-    rw (as_extended DatetimeTz _ (rw l.longest.ensures at l.if-stamp-longest.false) (eq-eqb _ _ (e.if-stamp-head_bits.true ∙ e.head_bits.ensures))) c.locate_datetime_tz-then-stamp-head_bits.ensures
+    rw (as_extended DatetimeTz _ (rw c.longest.ensures at c.if-stamp-longest.false) (eq-eqb _ _ (c.if-stamp-head_bits.true ∙ c.head_bits.ensures))) c.locate_datetime_tz-then-stamp-head_bits.ensures
 
 pub returns : goal.returns
 unfolding first_bits head_bits
 returns c =
-    let e = c in
-    let l = e in
-    rw (as_text DatetimeTz _ (rw l.longest.ensures at l.if-stamp-longest.false) (ne_eqb _ _ (λ p. e.if-stamp-head_bits.false (p ∙ sym e.head_bits.ensures)))) c.locate_datetime_tz-2.ensures
+    rw (as_text DatetimeTz _ (rw c.longest.ensures at c.if-stamp-longest.false) (ne_eqb _ _ (λ p. c.if-stamp-head_bits.false (p ∙ sym c.head_bits.ensures)))) c.locate_datetime_tz-2.ensures

@@ -13,19 +13,17 @@ use Rattle.schedule.proofs.walk.instant_of.Goals as goal
 
 pub returns-in-Ended : goal.returns-in-Ended
 returns-in-Ended c =
-    let r = c in
-    let a = r.args in
+    let a = c.args in
     let s = a.file.now in
     let o : Octets s = λ k. omega (arith, c.type_inv.file k) in
-    let w : Runs s (negsuc 9223372036854775807) a.i (alone s a.i) (W.Ended c.in-Ended.ended) = rw (c.in-Ended.is, r.requires.2) at c.run.ensures in
+    let w : Runs s (negsuc 9223372036854775807) a.i (alone s a.i) (W.Ended c.in-Ended.ended) = rw (c.in-Ended.is, c.requires.2) at c.run.ensures in
     rw (to_z-of_z {w = w64} {z = c.in-Ended.ended.instant} (sfits_of (search rules)))
-    (alone_instant s o a.i (omega (arith, r.requires.1, r.requires.0.records)) r.requires.3 c.in-Ended.ended w)
+    (alone_instant s o a.i (omega (arith, c.requires.1, c.requires.0.records)) c.requires.3 c.in-Ended.ended w)
 
 pub returns-in-Refused : goal.returns-in-Refused
 returns-in-Refused c =
-    let r = c in
-    let a = r.args in
+    let a = c.args in
     let s = a.file.now in
     let o : Octets s = λ k. omega (arith, c.type_inv.file k) in
-    let w : Runs s (negsuc 9223372036854775807) a.i (alone s a.i) (W.Refused c.in-Refused.field-0 c.in-Refused.field-1) = rw (c.in-Refused.is, r.requires.2) at c.run.ensures in
-    alone_never s o a.i (omega (arith, r.requires.1, r.requires.0.records)) r.requires.3 c.in-Refused.field-0 c.in-Refused.field-1 w
+    let w : Runs s (negsuc 9223372036854775807) a.i (alone s a.i) (W.Refused c.in-Refused.field-0 c.in-Refused.field-1) = rw (c.in-Refused.is, c.requires.2) at c.run.ensures in
+    alone_never s o a.i (omega (arith, c.requires.1, c.requires.0.records)) c.requires.3 c.in-Refused.field-0 c.in-Refused.field-1 w

@@ -15,11 +15,10 @@ use Rattle.schedule.proofs.Endings.{end_all, end_bad, end_stop, Far, far_front, 
 use Rattle.schedule.proofs.walk.run.Goals as goal
 
 pub loop-i-init : goal.loop-i-init
-loop-i-init c =
-    let r = c in (
-      far_front r.args.file.now _ r.args.from _ (omega (arith, r.requires.1, r.requires.0.records)),
-      refl,
-    )
+loop-i-init c = (
+  far_front c.args.file.now _ c.args.from _ (omega (arith, c.requires.1, c.requires.0.records)),
+  refl,
+)
 
 pub step-requires : goal.step-requires
 step-requires c =
@@ -44,8 +43,8 @@ returns-then-until-taken c =
     let e = step_took s l.i b t _ c.in-Taken.is c.step.ensures in
     let v = rw (to_z-of_z {w = w64} {z = a.until} r.ranges.until) at l.invariant.1 in
     rw (to_z-of_z {w = w64} {z = l.before.last} (sfits_of (search rules)), to_z-of_z {w = w64} {z = t.instant} (sfits_of (search rules))) (
-      stands_late s a.until a.from (octets) l.i _ (far) b t e (below) u,
-      rw k (sym v ∙ end_stop s a.until (count_of s) l.i b (taken l.i t) (below) e (ap not u)),
+      stands_late s a.until a.from octets l.i _ far b t e below u,
+      rw k (sym v ∙ end_stop s a.until (count_of s) l.i b (taken l.i t) below e (ap not u)),
     )
 
 pub end-requires : goal.end-requires
@@ -56,7 +55,7 @@ end-requires c =
     let t = c.in-Taken.taken in
     let b = before_from l.before in
     let e = step_took s l.i b t _ c.in-Taken.is c.step.ensures in
-    taken_small s l.i t (octets) (taken_is s l.i b t e)
+    taken_small s l.i t octets (taken_is s l.i b t e)
 
 pub loop-i-preserved : goal.loop-i-preserved
 loop-i-preserved c =
@@ -75,31 +74,29 @@ loop-i-preserved c =
     let u = in_order_lem a.until t.instant r.ranges.until (sfits_of (search rules)) c.if-until-taken.false in
     let v = rw (to_z-of_z {w = w64} {z = a.until} r.ranges.until) at l.invariant.1 in
     rw (c.end.ensures, to_z-of_z {w = w64} {z = a.until} r.ranges.until, to_z-of_z {w = w64} {z = t.instant} (sfits_of (search rules))) (
-      far_on s a.until a.from (octets) l.i _ (far) b t e (below) u,
-      turned s a.until a.from (octets) l.i _ (far) b t e (below) u ∙ v,
+      far_on s a.until a.from octets l.i _ far b t e below u,
+      turned s a.until a.from octets l.i _ far b t e below u ∙ v,
     )
 
 pub returns-in-Refused : goal.returns-in-Refused
 returns-in-Refused c =
     let some_left : c.loop-i.i < c.args.regions.records = omega arith in
     let below : c.loop-i.i < count_of c.args.file.now = omega (arith, some_left, c.requires.0.records) in
-    let r = c in
-    let s = r.args.file.now in
+    let s = c.args.file.now in
     let l = c.loop-i in
     let k : l.i + 1 ≡ suc l.i = omega arith in
     let e = step_bad s l.i (before_from l.before) _ _ c.in-Refused.is c.step.ensures in
     rw k
-    (sym (rw (to_z-of_z {w = w64} {z = r.args.until} r.ranges.until) at l.invariant.1)
-    ∙ end_bad s r.args.until (count_of s) l.i (before_from l.before) _ (below) e)
+    (sym (rw (to_z-of_z {w = w64} {z = c.args.until} c.ranges.until) at l.invariant.1)
+    ∙ end_bad s c.args.until (count_of s) l.i (before_from l.before) _ below e)
 
 pub returns : goal.returns
 returns c =
-    let r = c in
-    let s = r.args.file.now in
+    let s = c.args.file.now in
     let l = c.loop-i in
-    let f : Far s r.args.until r.args.from l.i l.before.last = rw (to_z-of_z {w = w64} {z = r.args.until} r.ranges.until) at l.invariant.0 in
+    let f : Far s c.args.until c.args.from l.i l.before.last = rw (to_z-of_z {w = w64} {z = c.args.until} c.ranges.until) at l.invariant.0 in
     rw (to_z-of_z {w = w64} {z = l.before.last} (sfits_of (search rules))) (
-      stands_all s r.args.until r.args.from l.i l.before.last f,
-      sym (rw (to_z-of_z {w = w64} {z = r.args.until} r.ranges.until) at l.invariant.1)
-          ∙ end_all s r.args.until (count_of s) l.i (before_from l.before) (omega (arith, r.requires.0.records)),
+      stands_all s c.args.until c.args.from l.i l.before.last f,
+      sym (rw (to_z-of_z {w = w64} {z = c.args.until} c.ranges.until) at l.invariant.1)
+          ∙ end_all s c.args.until (count_of s) l.i (before_from l.before) (omega (arith, c.requires.0.records)),
     )

@@ -27,50 +27,44 @@ unfolding stamp_at
 read-stamp c = rw (c.fields_at-fields.ensures, c.requires.0.stamps) at c.instant_at.ensures
 
 pub fields_at-fields-requires : goal.fields_at-fields-requires
-fields_at-fields-requires c = let r = c in let a = r.args in record_fits a.file.now a.regions r.requires.0 a.i r.requires.1
+fields_at-fields-requires c = let a = c.args in record_fits a.file.now a.regions c.requires.0 a.i c.requires.1
 
 pub are_right-requires : goal.are_right-requires
 are_right-requires c = rw c.fields_at-fields.ensures (fields_small _ _ (λ i. omega (arith, c.type_inv.file i)))
 
 pub returns-then-not-are_right : goal.returns-then-not-are_right
 returns-then-not-are_right c =
-    let r = c in
-    let a = r.args in
-    sym (step_bad a.file.now a.regions r.requires.0 a.i a.before (rw c.fields_at-fields.ensures at (sym c.are_right.ensures ∙ not_true _ c.if-not-are_right.true-raw)))
+    let a = c.args in
+    sym (step_bad a.file.now a.regions c.requires.0 a.i a.before (rw c.fields_at-fields.ensures at (sym c.are_right.ensures ∙ not_true _ c.if-not-are_right.true-raw)))
 
 pub overflow_add-stamps : goal.overflow_add-stamps
 overflow_add-stamps c =
-    let r = c in
-    let a = r.args in
-    let f = stamp_fits a.file.now a.regions r.requires.0 a.i a.before (right-fields (goal.at.overflow_add-stamps c).Else-not-are_right) in
+    let a = c.args in
+    let f = stamp_fits a.file.now a.regions c.requires.0 a.i a.before (right-fields (goal.at.overflow_add-stamps c).Else-not-are_right) in
     rw c.fields_at-fields.ensures (record { fits = omega (arith, f) })
 
 pub instant_at-requires : goal.instant_at-requires
 instant_at-requires c =
-    let r = c in
-    let a = r.args in
-    rw c.fields_at-fields.ensures (stamp_fits a.file.now a.regions r.requires.0 a.i a.before (right-fields (goal.at.instant_at-requires c).Else-not-are_right))
+    let a = c.args in
+    rw c.fields_at-fields.ensures (stamp_fits a.file.now a.regions c.requires.0 a.i a.before (right-fields (goal.at.instant_at-requires c).Else-not-are_right))
 
 pub returns-then-instant-last : goal.returns-then-instant-last
 returns-then-instant-last c =
-    let r = c in
-    let a = r.args in
+    let a = c.args in
     let e = ap timed (sym c.in-At.is) ∙ read-stamp (goal.at.returns-then-instant-last c).After-instant_at in
     let o = late c.in-At.instant a.before.last (sfits_of (search rules)) (sfits_of (search rules)) c.if-instant-last.true in
-    rw o at (sym (step_timed a.file.now a.regions r.requires.0 a.i a.before c.in-At.instant (right-fields (goal.at.returns-then-instant-last c).Else-not-are_right) (sym e)))
+    rw o at (sym (step_timed a.file.now a.regions c.requires.0 a.i a.before c.in-At.instant (right-fields (goal.at.returns-then-instant-last c).Else-not-are_right) (sym e)))
 
 pub returns-else-instant-last : goal.returns-else-instant-last
 returns-else-instant-last c =
-    let r = c in
-    let a = r.args in
+    let a = c.args in
     let e = ap timed (sym c.in-At.is) ∙ read-stamp (goal.at.returns-else-instant-last c).After-instant_at in
     let o = in_order_lem c.in-At.instant a.before.last (sfits_of (search rules)) (sfits_of (search rules)) c.if-instant-last.false in
     rw (c.fields_at-fields.ensures, to_z-of_z {w = w64} {z = c.in-At.instant} (sfits_of (search rules)))
-    (rw o at (sym (step_timed a.file.now a.regions r.requires.0 a.i a.before c.in-At.instant (right-fields (goal.at.returns-else-instant-last c).Else-not-are_right) (sym e))))
+    (rw o at (sym (step_timed a.file.now a.regions c.requires.0 a.i a.before c.in-At.instant (right-fields (goal.at.returns-else-instant-last c).Else-not-are_right) (sym e))))
 
 pub returns-in-Refused : goal.returns-in-Refused
 returns-in-Refused c =
-    let r = c in
-    let a = r.args in
+    let a = c.args in
     let e = ap timed (sym c.in-Refused.is) ∙ read-stamp (goal.at.returns-in-Refused c).After-instant_at in
-    sym (step_refused a.file.now a.regions r.requires.0 a.i a.before _ (right-fields (goal.at.returns-in-Refused c).Else-not-are_right) (sym e))
+    sym (step_refused a.file.now a.regions c.requires.0 a.i a.before _ (right-fields (goal.at.returns-in-Refused c).Else-not-are_right) (sym e))

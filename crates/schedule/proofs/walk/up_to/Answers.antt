@@ -8,7 +8,6 @@ use Rattle.schedule.proofs.walk.up_to.Goals as goal
 
 pub returns : goal.returns
 returns c =
-    let r = c in
-    let s = r.args.file.now in
+    let s = c.args.file.now in
     let o : Octets s = λ k. omega (arith, c.type_inv.file k) in
-    runs_walks s r.args.until o r.requires.good c.run.result (rw (to_z-of_z {w = w64} {z = r.args.until} r.ranges.until) at c.run.ensures)
+    runs_walks s c.args.until o c.requires.good c.run.result (rw (to_z-of_z {w = w64} {z = c.args.until} c.ranges.until) at c.run.ensures)

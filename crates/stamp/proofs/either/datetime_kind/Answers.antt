@@ -25,40 +25,33 @@ returns-then-n-le9 c =
 pub returns-then-bits-eq8 : goal.returns-then-bits-eq8
 unfolding kind_in kind_by01 first_bits
 returns-then-bits-eq8 c =
-    let e = c in
-    rw (eq-eqb _ _ c.if-bits-eq8.true, both_false _, lt-leb _ _ e.if-n-le6.false, lt-leb _ _ e.if-n-le9.false)
+    rw (eq-eqb _ _ c.if-bits-eq8.true, both_false _, lt-leb _ _ c.if-n-le6.false, lt-leb _ _ c.if-n-le9.false)
 
 pub returns-then-bits-eq9 : goal.returns-then-bits-eq9
 unfolding kind_in kind_by01 first_bits
 returns-then-bits-eq9 c =
-    let e = c in
-    rw (ne_eqb _ _ c.if-bits-eq8.false, eq-eqb _ _ c.if-bits-eq9.true, both_false _, lt-leb _ _ e.if-n-le6.false, lt-leb _ _ e.if-n-le9.false)
+    rw (ne_eqb _ _ c.if-bits-eq8.false, eq-eqb _ _ c.if-bits-eq9.true, both_false _, lt-leb _ _ c.if-n-le6.false, lt-leb _ _ c.if-n-le9.false)
 
 pub returns-then-is_sign : goal.returns-then-is_sign
 unfolding kind_in first_bits
 returns-then-is_sign c =
-    let e = c in
-    let s = e.args.s.now in
+    let s = c.args.s.now in
     let sign : is_sign (get_or s 19 0) ≡ true = sym c.is_sign.ensures ∙ c.if-is_sign.true in
-    rw (e.if-n-eq25.true, sign, ne_eqb _ _ e.if-bits-eq8.false, ne_eqb _ _ e.if-bits-eq9.false)
+    rw (c.if-n-eq25.true, sign, ne_eqb _ _ c.if-bits-eq8.false, ne_eqb _ _ c.if-bits-eq9.false)
 
 pub returns-then-n-le26 : goal.returns-then-n-le26
 unfolding kind_in kind_by01 first_bits
 returns-then-n-le26 c =
-    let e = c in
-    let f = e in
-    let s = f.args.s.now in
+    let s = c.args.s.now in
     let no : both (eqb (length s) 25) (is_sign (get_or s 19 0)) ≡ false =
     elim c.else-n-eq25.branch as (λ _. both (eqb (length s) 25) (is_sign (get_or s 19 0)) ≡ false) [
       | else-n-eq25-via-then-n-eq25+else-is_sign w ↦ let none : is_sign (get_or s 19 0) ≡ false = sym w.is_sign.ensures ∙ w.if-is_sign.false in rw none (both_false (eqb (length s) 25))
       | else-n-eq25-via-else-n-eq25 w ↦ rw (ne_eqb (length s) 25 w.if-n-eq25.false)
     ] in
-    rw (no, lt-leb _ _ f.if-n-le6.false, lt-leb _ _ f.if-n-le9.false, ne_eqb _ _ e.if-bits-eq8.false, ne_eqb _ _ e.if-bits-eq9.false, le-leb _ 26 c.if-n-le26.true)
+    rw (no, lt-leb _ _ c.if-n-le6.false, lt-leb _ _ c.if-n-le9.false, ne_eqb _ _ c.if-bits-eq8.false, ne_eqb _ _ c.if-bits-eq9.false, le-leb _ 26 c.if-n-le26.true)
 
 pub returns : goal.returns
 unfolding kind_in kind_by01 first_bits
 returns c =
-    let e = c in
-    let f = e in
-    let s = f.args.s.now in
-    rw (ne_eqb (length s) 25 (λ x. omega arith), lt-leb _ _ f.if-n-le6.false, lt-leb _ _ f.if-n-le9.false, ne_eqb _ _ e.if-bits-eq8.false, ne_eqb _ _ e.if-bits-eq9.false, lt-leb _ _ c.if-n-le26.false)
+    let s = c.args.s.now in
+    rw (ne_eqb (length s) 25 (λ x. omega arith), lt-leb _ _ c.if-n-le6.false, lt-leb _ _ c.if-n-le9.false, ne_eqb _ _ c.if-bits-eq8.false, ne_eqb _ _ c.if-bits-eq9.false, lt-leb _ _ c.if-n-le26.false)

@@ -24,26 +24,23 @@ returns-then-n-le6 c =
 pub returns-then-is_sign : goal.returns-then-is_sign
 unfolding kind_in
 returns-then-is_sign c =
-    let e = c in
-    let s = e.args.s.now in
+    let s = c.args.s.now in
     let sign : is_sign (get_or s 8 0) ≡ true = sym c.is_sign.ensures ∙ c.if-is_sign.true in
-    rw (e.if-n-eq14.true, sign)
+    rw (c.if-n-eq14.true, sign)
 
 pub returns-then-n-le15 : goal.returns-then-n-le15
 unfolding kind_in kind_by01
 returns-then-n-le15 c =
-    let e = c in
-    let s = e.args.s.now in
+    let s = c.args.s.now in
     let no : both (eqb (length s) 14) (is_sign (get_or s 8 0)) ≡ false =
     elim c.else-n-eq14.branch as (λ _. both (eqb (length s) 14) (is_sign (get_or s 8 0)) ≡ false) [
       | else-n-eq14-via-then-n-eq14+else-is_sign w ↦ let none : is_sign (get_or s 8 0) ≡ false = sym w.is_sign.ensures ∙ w.if-is_sign.false in rw none (both_false (eqb (length s) 14))
       | else-n-eq14-via-else-n-eq14 w ↦ rw (ne_eqb (length s) 14 w.if-n-eq14.false)
     ] in
-    rw (no, lt-leb _ _ e.if-n-le4.false, lt-leb _ _ e.if-n-le6.false, ne_eqb _ _ e.if-n-eq7.false, le-leb _ 15 c.if-n-le15.true)
+    rw (no, lt-leb _ _ c.if-n-le4.false, lt-leb _ _ c.if-n-le6.false, ne_eqb _ _ c.if-n-eq7.false, le-leb _ 15 c.if-n-le15.true)
 
 pub returns : goal.returns
 unfolding kind_in kind_by01
 returns c =
-    let e = c in
-    let s = e.args.s.now in
-    rw (ne_eqb (length s) 14 (λ x. omega arith), lt-leb _ _ e.if-n-le4.false, lt-leb _ _ e.if-n-le6.false, ne_eqb _ _ e.if-n-eq7.false, lt-leb _ _ c.if-n-le15.false)
+    let s = c.args.s.now in
+    rw (ne_eqb (length s) 14 (λ x. omega arith), lt-leb _ _ c.if-n-le4.false, lt-leb _ _ c.if-n-le6.false, ne_eqb _ _ c.if-n-eq7.false, lt-leb _ _ c.if-n-le15.false)

@@ -10,9 +10,7 @@ use Rattle.stamp.proofs.readers.read_time_tz.Goals as goal
 pub returns-in-Stamp : goal.returns-in-Stamp
 unfolding own
 returns-in-Stamp c =
-    let found = c in
-    let r = found in
-    under_kind TimeTz _ _ _ (λ i. omega (arith, r.type_inv.s i)) (sym (ap (parsed _) found.in-Stamp.is) ∙ r.parse_time_tz.ensures)
+    under_kind TimeTz _ _ _ (λ i. omega (arith, c.type_inv.s i)) (sym (ap (parsed _) c.in-Stamp.is) ∙ c.parse_time_tz.ensures)
 
 pub returns-in-Refused : goal.returns-in-Refused
 returns-in-Refused c = sym (ap (parsed _) c.in-Refused.is) ∙ c.parse_time_tz.ensures

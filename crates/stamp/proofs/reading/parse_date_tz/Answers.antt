@@ -9,5 +9,4 @@ returns-then-s-longest c = rw (as_compact DateTz _ (rw c.longest.ensures at c.if
 
 pub returns : goal.returns
 returns c =
-    let l = c in
-    rw (as_text _ _ (rw l.longest.ensures at l.if-s-longest.false) refl) c.read_date_tz-2.ensures
+    rw (as_text _ _ (rw c.longest.ensures at c.if-s-longest.false) refl) c.read_date_tz-2.ensures

@@ -18,13 +18,9 @@ read_datetime-requires-then-s-head_bits c = (c.if-s-head_bits.true ∙ c.head_bi
 pub returns-then-s-head_bits : goal.returns-then-s-head_bits
 unfolding first_bits head_bits
 returns-then-s-head_bits c =
-    let e = c in
-    let l = e in
-    rw (as_extended Datetime _ (rw l.longest.ensures at l.if-s-longest.false) (eq-eqb _ _ (e.if-s-head_bits.true ∙ e.head_bits.ensures))) c.read_datetime-then-s-head_bits.ensures
+    rw (as_extended Datetime _ (rw c.longest.ensures at c.if-s-longest.false) (eq-eqb _ _ (c.if-s-head_bits.true ∙ c.head_bits.ensures))) c.read_datetime-then-s-head_bits.ensures
 
 pub returns : goal.returns
 unfolding first_bits head_bits
 returns c =
-    let e = c in
-    let l = e in
-    rw (as_text Datetime _ (rw l.longest.ensures at l.if-s-longest.false) (ne_eqb _ _ (λ p. e.if-s-head_bits.false (p ∙ sym e.head_bits.ensures)))) c.read_datetime-2.ensures
+    rw (as_text Datetime _ (rw c.longest.ensures at c.if-s-longest.false) (ne_eqb _ _ (λ p. c.if-s-head_bits.false (p ∙ sym c.head_bits.ensures)))) c.read_datetime-2.ensures

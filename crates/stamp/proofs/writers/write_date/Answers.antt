@@ -18,15 +18,9 @@ returns-then-not-in_range c = rw (too_many _ _ _ (sym c.in_range.ensures ∙ not
 pub returns-then-settings : goal.returns-then-settings
 unfolding form_for
 returns-then-settings c =
-    let w = c in
-    let t = w in
-    let n = t in
-    rw (in_form _ _ _ (few (goal.at.returns-then-settings c).Else-not-in_range), t.if-settings.true) (rw (n.new.ensures, n.new-2.ensures) at w.write_date.ensures)
+    rw (in_form _ _ _ (few (goal.at.returns-then-settings c).Else-not-in_range), c.if-settings.true) (rw (c.new.ensures, c.new-2.ensures) at c.write_date.ensures)
 
 pub returns : goal.returns
 unfolding form_for
 returns c =
-    let w = c in
-    let t = w in
-    let n = t in
-    rw (in_form _ _ _ (few (goal.at.returns c).Else-not-in_range), t.if-settings.false) (rw (n.new.ensures, n.new-2.ensures) at w.write_date-2.ensures)
+    rw (in_form _ _ _ (few (goal.at.returns c).Else-not-in_range), c.if-settings.false) (rw (c.new.ensures, c.new-2.ensures) at c.write_date-2.ensures)

@@ -17,29 +17,16 @@ returns-then-not-in_range c = rw (too_many _ _ _ (sym c.in_range.ensures ∙ not
 
 pub write_time_tz-requires : goal.write_time_tz-requires
 write_time_tz-requires c =
-    let f = c in
-    chosen_digits _ _ _ (few (goal.at.write_time_tz-requires c).Else-not-in_range) _ (sym f.form.ensures ∙ ap form_from c.in-Text.is)
+    chosen_digits _ _ _ (few (goal.at.write_time_tz-requires c).Else-not-in_range) _ (sym c.form.ensures ∙ ap form_from c.in-Text.is)
 
 pub returns-in-Text : goal.returns-in-Text
 returns-in-Text c =
-    let w = c in
-    let t = w in
-    let f = t in
-    let n = f in
-    rw (in_form _ _ _ (few (goal.at.returns-in-Text c).Else-not-in_range), (rw n.new.ensures at (sym f.form.ensures ∙ ap form_from t.in-Text.is))) (rw n.new.ensures at w.write_time_tz.ensures)
+    rw (in_form _ _ _ (few (goal.at.returns-in-Text c).Else-not-in_range), (rw c.new.ensures at (sym c.form.ensures ∙ ap form_from c.in-Text.is))) (rw c.new.ensures at c.write_time_tz.ensures)
 
 pub returns-in-Compact : goal.returns-in-Compact
 returns-in-Compact c =
-    let w = c in
-    let t = w in
-    let f = t in
-    let n = f in
-    rw (in_form _ _ _ (few (goal.at.returns-in-Compact c).Else-not-in_range), (rw n.new.ensures at (sym f.form.ensures ∙ ap form_from t.in-Compact.is))) (rw n.new.ensures at w.write_time_tz-in-Compact.ensures)
+    rw (in_form _ _ _ (few (goal.at.returns-in-Compact c).Else-not-in_range), (rw c.new.ensures at (sym c.form.ensures ∙ ap form_from c.in-Compact.is))) (rw c.new.ensures at c.write_time_tz-in-Compact.ensures)
 
 pub returns-in-Extended : goal.returns-in-Extended
 returns-in-Extended c =
-    let w = c in
-    let t = w in
-    let f = t in
-    let n = f in
-    rw (in_form _ _ _ (few (goal.at.returns-in-Extended c).Else-not-in_range), (rw n.new.ensures at (sym f.form.ensures ∙ ap form_from t.in-Extended.is))) (rw n.new.ensures at w.write_time_tz-in-Extended.ensures)
+    rw (in_form _ _ _ (few (goal.at.returns-in-Extended c).Else-not-in_range), (rw c.new.ensures at (sym c.form.ensures ∙ ap form_from c.in-Extended.is))) (rw c.new.ensures at c.write_time_tz-in-Extended.ensures)

@@ -12,16 +12,14 @@ returns-then-digits-eq0 c = part_none _ _ _ c.if-digits-eq0.true
 
 pub bounds-s-at : goal.bounds-s-at
 bounds-s-at c =
-    let p = c in
-    omega (arith, p.requires.0, part_width p.args.digits c.if-digits-eq0.false)
+    omega (arith, c.requires.0, part_width c.args.digits c.if-digits-eq0.false)
 
 pub returns-then-s-at-ne46 : goal.returns-then-s-at-ne46
 returns-then-s-at-ne46 c = part_no_point _ _ _ c.if-digits-eq0.false c.if-s-at-ne46.true
 
 pub overflow_add-first : goal.overflow_add-first
 overflow_add-first c =
-    let p = c in
-    omega (arith, p.requires.0, part_width p.args.digits c.if-digits-eq0.false)
+    omega (arith, c.requires.0, part_width c.args.digits c.if-digits-eq0.false)
 
 pub loop-i-init : goal.loop-i-init
 unfolding are_digits number_at
@@ -29,13 +27,11 @@ loop-i-init c = (omega arith, (refl, refl))
 
 pub overflow_add-octet : goal.overflow_add-octet
 overflow_add-octet c =
-    let p = c in
-    omega (arith, p.requires.0, part_width p.args.digits c.if-digits-eq0.false)
+    omega (arith, c.requires.0, part_width c.args.digits c.if-digits-eq0.false)
 
 pub bounds-s-first : goal.bounds-s-first
 bounds-s-first c =
-    let p = c in
-    omega (arith, p.requires.0, part_width p.args.digits c.if-digits-eq0.false)
+    omega (arith, c.requires.0, part_width c.args.digits c.if-digits-eq0.false)
 
 pub is_digit-requires : goal.is_digit-requires
 is_digit-requires c = tt
@@ -86,7 +82,7 @@ overflow_mul-result c =
     let whole : c.loop-i.number ≡ number_at c.args.s.now (c.args.at + 1) c.args.digits = let l = c.loop-i in
     let e : l.i ≡ c.args.digits = omega (arith, l.invariant.0) in
     rw e at l.invariant.1.1 in
-    omega (arith, counted_small _ _ _ c.requires.1 (all) _ _ (whole) c.fraction_unit.ensures)
+    omega (arith, counted_small _ _ _ c.requires.1 all _ _ whole c.fraction_unit.ensures)
 
 pub returns : goal.returns
 returns c =
@@ -96,5 +92,5 @@ returns c =
     let whole : c.loop-i.number ≡ number_at c.args.s.now (c.args.at + 1) c.args.digits = let l = c.loop-i in
     let e : l.i ≡ c.args.digits = omega (arith, l.invariant.0) in
     rw e at l.invariant.1.1 in
-    part_done _ _ _ c.if-digits-eq0.false c.if-s-at-ne46.false (all)
-    _ _ (whole) c.fraction_unit.ensures
+    part_done _ _ _ c.if-digits-eq0.false c.if-s-at-ne46.false all
+    _ _ whole c.fraction_unit.ensures

@@ -13,91 +13,89 @@ returns-then-digits-gt-MAX_DIGITS c = too_many Datetime _ c.args.s.now c.digits_
 pub date-requires : goal.date-requires
 date-requires c =
     let opened : Opened Datetime c.digits_in-digits.result c.args.s.now = record { found = c.digits_in-digits.ensures; few = c.if-digits-gt-MAX_DIGITS.false } in
-    date_room (opened) refl
+    date_room opened refl
 
 pub returns-in_default : goal.returns-in_default
 returns-in_default c =
     let opened : Opened Datetime c.digits_in-digits.result c.args.s.now = record { found = c.digits_in-digits.ensures; few = c.if-digits-gt-MAX_DIGITS.false } in
-    date_wrong (opened) c.in_default.is c.date.ensures.0
+    date_wrong opened c.in_default.is c.date.ensures.0
 
 pub joint-requires : goal.joint-requires
 joint-requires c =
     let opened : Opened Datetime c.digits_in-digits.result c.args.s.now = record { found = c.digits_in-digits.ensures; few = c.if-digits-gt-MAX_DIGITS.false } in
-    let headed : AfterDate (opened) c.in-Read.is = date_read (opened) refl c.in-Read.is c.date.ensures in
-    joint_room (headed) refl refl
+    let headed : AfterDate opened c.in-Read.is = date_read opened refl c.in-Read.is c.date.ensures in
+    joint_room headed refl refl
 
 pub returns-in_default-joint : goal.returns-in_default-joint
 returns-in_default-joint c =
     let opened : Opened Datetime c.digits_in-digits.result c.args.s.now = record { found = c.digits_in-digits.ensures; few = c.if-digits-gt-MAX_DIGITS.false } in
-    let headed : AfterDate (opened) c.in-Read.is = date_read (opened) refl c.in-Read.is c.date.ensures in
-    joint_wrong (headed) refl refl c.in_default-joint.is c.joint.ensures
+    let headed : AfterDate opened c.in-Read.is = date_read opened refl c.in-Read.is c.date.ensures in
+    joint_wrong headed refl refl c.in_default-joint.is c.joint.ensures
 
 pub clock-requires : goal.clock-requires
 clock-requires c =
     let opened : Opened Datetime c.digits_in-digits.result c.args.s.now = record { found = c.digits_in-digits.ensures; few = c.if-digits-gt-MAX_DIGITS.false } in
-    let headed : AfterDate (opened) c.in-Read.is = date_read (opened) refl c.in-Read.is c.date.ensures in
-    let front : AfterJoint (headed) c.in-Read-joint.is = joint_read (headed) refl refl c.in-Read-joint.is c.joint.ensures in
-    clock_room (front)
+    let headed : AfterDate opened c.in-Read.is = date_read opened refl c.in-Read.is c.date.ensures in
+    let front : AfterJoint headed c.in-Read-joint.is = joint_read headed refl refl c.in-Read-joint.is c.joint.ensures in
+    clock_room front
 
 pub returns-in_default-clock : goal.returns-in_default-clock
 returns-in_default-clock c =
     let opened : Opened Datetime c.digits_in-digits.result c.args.s.now = record { found = c.digits_in-digits.ensures; few = c.if-digits-gt-MAX_DIGITS.false } in
-    let headed : AfterDate (opened) c.in-Read.is = date_read (opened) refl c.in-Read.is c.date.ensures in
-    let front : AfterJoint (headed) c.in-Read-joint.is = joint_read (headed) refl refl c.in-Read-joint.is c.joint.ensures in
-    clock_wrong (front) c.in_default-clock.is c.clock.ensures.0
+    let headed : AfterDate opened c.in-Read.is = date_read opened refl c.in-Read.is c.date.ensures in
+    let front : AfterJoint headed c.in-Read-joint.is = joint_read headed refl refl c.in-Read-joint.is c.joint.ensures in
+    clock_wrong front c.in_default-clock.is c.clock.ensures.0
 
 pub fraction-requires : goal.fraction-requires
 fraction-requires c =
     let opened : Opened Datetime c.digits_in-digits.result c.args.s.now = record { found = c.digits_in-digits.ensures; few = c.if-digits-gt-MAX_DIGITS.false } in
-    let headed : AfterDate (opened) c.in-Read.is = date_read (opened) refl c.in-Read.is c.date.ensures in
-    let front : AfterJoint (headed) c.in-Read-joint.is = joint_read (headed) refl refl c.in-Read-joint.is c.joint.ensures in
-    let paired : AfterClock (front) c.in-Read-clock.is = clock_read (front) c.in-Read-clock.is c.clock.ensures in
-    part_room (paired)
+    let headed : AfterDate opened c.in-Read.is = date_read opened refl c.in-Read.is c.date.ensures in
+    let front : AfterJoint headed c.in-Read-joint.is = joint_read headed refl refl c.in-Read-joint.is c.joint.ensures in
+    let paired : AfterClock front c.in-Read-clock.is = clock_read front c.in-Read-clock.is c.clock.ensures in
+    part_room paired
 
 pub returns-in_default-fraction : goal.returns-in_default-fraction
 returns-in_default-fraction c =
     let opened : Opened Datetime c.digits_in-digits.result c.args.s.now = record { found = c.digits_in-digits.ensures; few = c.if-digits-gt-MAX_DIGITS.false } in
-    let headed : AfterDate (opened) c.in-Read.is = date_read (opened) refl c.in-Read.is c.date.ensures in
-    let front : AfterJoint (headed) c.in-Read-joint.is = joint_read (headed) refl refl c.in-Read-joint.is c.joint.ensures in
-    let paired : AfterClock (front) c.in-Read-clock.is = clock_read (front) c.in-Read-clock.is c.clock.ensures in
-    part_wrong (paired) c.in_default-fraction.is c.fraction.ensures.0
+    let headed : AfterDate opened c.in-Read.is = date_read opened refl c.in-Read.is c.date.ensures in
+    let front : AfterJoint headed c.in-Read-joint.is = joint_read headed refl refl c.in-Read-joint.is c.joint.ensures in
+    let paired : AfterClock front c.in-Read-clock.is = clock_read front c.in-Read-clock.is c.clock.ensures in
+    part_wrong paired c.in_default-fraction.is c.fraction.ensures.0
 
 pub new-clock-requires : goal.new-clock-requires
 new-clock-requires c =
     let opened : Opened Datetime c.digits_in-digits.result c.args.s.now = record { found = c.digits_in-digits.ensures; few = c.if-digits-gt-MAX_DIGITS.false } in
-    let headed : AfterDate (opened) c.in-Read.is = date_read (opened) refl c.in-Read.is c.date.ensures in
-    let front : AfterJoint (headed) c.in-Read-joint.is = joint_read (headed) refl refl c.in-Read-joint.is c.joint.ensures in
-    let paired : AfterClock (front) c.in-Read-clock.is = clock_read (front) c.in-Read-clock.is c.clock.ensures in
-    clock_small (paired)
+    let headed : AfterDate opened c.in-Read.is = date_read opened refl c.in-Read.is c.date.ensures in
+    let front : AfterJoint headed c.in-Read-joint.is = joint_read headed refl refl c.in-Read-joint.is c.joint.ensures in
+    let paired : AfterClock front c.in-Read-clock.is = clock_read front c.in-Read-clock.is c.clock.ensures in
+    clock_small paired
 
 pub returns-then-not-in_range : goal.returns-then-not-in_range
 returns-then-not-in_range c =
     let opened : Opened Datetime c.digits_in-digits.result c.args.s.now = record { found = c.digits_in-digits.ensures; few = c.if-digits-gt-MAX_DIGITS.false } in
-    let headed : AfterDate (opened) c.in-Read.is = date_read (opened) refl c.in-Read.is c.date.ensures in
-    let front : AfterJoint (headed) c.in-Read-joint.is = joint_read (headed) refl refl c.in-Read-joint.is c.joint.ensures in
-    let paired : AfterClock (front) c.in-Read-clock.is = clock_read (front) c.in-Read-clock.is c.clock.ensures in
-    let rear : AfterPart (paired) c.in-Read-fraction.is = part_read (paired) c.in-Read-fraction.is c.fraction.ensures in
-    let said : AfterAll (rear) c.new-clock.result no_zone = unzoned (rear) c.new-clock.ensures refl in
-    no_day (unsigned (said)) c.in_range.ensures c.if-not-in_range.true-raw
+    let headed : AfterDate opened c.in-Read.is = date_read opened refl c.in-Read.is c.date.ensures in
+    let front : AfterJoint headed c.in-Read-joint.is = joint_read headed refl refl c.in-Read-joint.is c.joint.ensures in
+    let paired : AfterClock front c.in-Read-clock.is = clock_read front c.in-Read-clock.is c.clock.ensures in
+    let rear : AfterPart paired c.in-Read-fraction.is = part_read paired c.in-Read-fraction.is c.fraction.ensures in
+    let said : AfterAll rear c.new-clock.result no_zone = unzoned rear c.new-clock.ensures refl in
+    no_day (unsigned said) c.in_range.ensures c.if-not-in_range.true-raw
 
 pub returns-then-not-in_range-2 : goal.returns-then-not-in_range-2
 returns-then-not-in_range-2 c =
     let opened : Opened Datetime c.digits_in-digits.result c.args.s.now = record { found = c.digits_in-digits.ensures; few = c.if-digits-gt-MAX_DIGITS.false } in
-    let headed : AfterDate (opened) c.in-Read.is = date_read (opened) refl c.in-Read.is c.date.ensures in
-    let front : AfterJoint (headed) c.in-Read-joint.is = joint_read (headed) refl refl c.in-Read-joint.is c.joint.ensures in
-    let paired : AfterClock (front) c.in-Read-clock.is = clock_read (front) c.in-Read-clock.is c.clock.ensures in
-    let rear : AfterPart (paired) c.in-Read-fraction.is = part_read (paired) c.in-Read-fraction.is c.fraction.ensures in
-    let said : AfterAll (rear) c.new-clock.result no_zone = unzoned (rear) c.new-clock.ensures refl in
-    no_time (unsigned (said)) c.in_range-2.ensures c.if-not-in_range-2.true-raw
+    let headed : AfterDate opened c.in-Read.is = date_read opened refl c.in-Read.is c.date.ensures in
+    let front : AfterJoint headed c.in-Read-joint.is = joint_read headed refl refl c.in-Read-joint.is c.joint.ensures in
+    let paired : AfterClock front c.in-Read-clock.is = clock_read front c.in-Read-clock.is c.clock.ensures in
+    let rear : AfterPart paired c.in-Read-fraction.is = part_read paired c.in-Read-fraction.is c.fraction.ensures in
+    let said : AfterAll rear c.new-clock.result no_zone = unzoned rear c.new-clock.ensures refl in
+    no_time (unsigned said) c.in_range-2.ensures c.if-not-in_range-2.true-raw
 
 pub returns : goal.returns
 returns c =
     let opened : Opened Datetime c.digits_in-digits.result c.args.s.now = record { found = c.digits_in-digits.ensures; few = c.if-digits-gt-MAX_DIGITS.false } in
-    let headed : AfterDate (opened) c.in-Read.is = date_read (opened) refl c.in-Read.is c.date.ensures in
-    let front : AfterJoint (headed) c.in-Read-joint.is = joint_read (headed) refl refl c.in-Read-joint.is c.joint.ensures in
-    let paired : AfterClock (front) c.in-Read-clock.is = clock_read (front) c.in-Read-clock.is c.clock.ensures in
-    let rear : AfterPart (paired) c.in-Read-fraction.is = part_read (paired) c.in-Read-fraction.is c.fraction.ensures in
-    let said : AfterAll (rear) c.new-clock.result no_zone = unzoned (rear) c.new-clock.ensures refl in
-    let time = c in
-    let day = time in
-    stamped (unsigned (said)) (passes day.in_range.ensures day.if-not-in_range.false-raw) (passes time.in_range-2.ensures time.if-not-in_range-2.false-raw) refl refl refl (no_minutes c.new-offset.ensures)
+    let headed : AfterDate opened c.in-Read.is = date_read opened refl c.in-Read.is c.date.ensures in
+    let front : AfterJoint headed c.in-Read-joint.is = joint_read headed refl refl c.in-Read-joint.is c.joint.ensures in
+    let paired : AfterClock front c.in-Read-clock.is = clock_read front c.in-Read-clock.is c.clock.ensures in
+    let rear : AfterPart paired c.in-Read-fraction.is = part_read paired c.in-Read-fraction.is c.fraction.ensures in
+    let said : AfterAll rear c.new-clock.result no_zone = unzoned rear c.new-clock.ensures refl in
+    stamped (unsigned said) (passes c.in_range.ensures c.if-not-in_range.false-raw) (passes c.in_range-2.ensures c.if-not-in_range-2.false-raw) refl refl refl (no_minutes c.new-offset.ensures)

@@ -13,128 +13,123 @@ returns-then-digits-gt-MAX_DIGITS c = too_many DatetimeTz _ c.args.s.now c.digit
 pub date-requires : goal.date-requires
 date-requires c =
     let opened : Opened DatetimeTz c.digits_in-digits.result c.args.s.now = record { found = c.digits_in-digits.ensures; few = c.if-digits-gt-MAX_DIGITS.false } in
-    date_room (opened) refl
+    date_room opened refl
 
 pub returns-in_default : goal.returns-in_default
 returns-in_default c =
     let opened : Opened DatetimeTz c.digits_in-digits.result c.args.s.now = record { found = c.digits_in-digits.ensures; few = c.if-digits-gt-MAX_DIGITS.false } in
-    date_wrong (opened) c.in_default.is c.date.ensures.0
+    date_wrong opened c.in_default.is c.date.ensures.0
 
 pub joint-requires : goal.joint-requires
 joint-requires c =
     let opened : Opened DatetimeTz c.digits_in-digits.result c.args.s.now = record { found = c.digits_in-digits.ensures; few = c.if-digits-gt-MAX_DIGITS.false } in
-    let headed : AfterDate (opened) c.in-Read.is = date_read (opened) refl c.in-Read.is c.date.ensures in
-    joint_room (headed) refl refl
+    let headed : AfterDate opened c.in-Read.is = date_read opened refl c.in-Read.is c.date.ensures in
+    joint_room headed refl refl
 
 pub returns-in_default-joint : goal.returns-in_default-joint
 returns-in_default-joint c =
     let opened : Opened DatetimeTz c.digits_in-digits.result c.args.s.now = record { found = c.digits_in-digits.ensures; few = c.if-digits-gt-MAX_DIGITS.false } in
-    let headed : AfterDate (opened) c.in-Read.is = date_read (opened) refl c.in-Read.is c.date.ensures in
-    joint_wrong (headed) refl refl c.in_default-joint.is c.joint.ensures
+    let headed : AfterDate opened c.in-Read.is = date_read opened refl c.in-Read.is c.date.ensures in
+    joint_wrong headed refl refl c.in_default-joint.is c.joint.ensures
 
 pub clock-requires : goal.clock-requires
 clock-requires c =
     let opened : Opened DatetimeTz c.digits_in-digits.result c.args.s.now = record { found = c.digits_in-digits.ensures; few = c.if-digits-gt-MAX_DIGITS.false } in
-    let headed : AfterDate (opened) c.in-Read.is = date_read (opened) refl c.in-Read.is c.date.ensures in
-    let front : AfterJoint (headed) c.in-Read-joint.is = joint_read (headed) refl refl c.in-Read-joint.is c.joint.ensures in
-    clock_room (front)
+    let headed : AfterDate opened c.in-Read.is = date_read opened refl c.in-Read.is c.date.ensures in
+    let front : AfterJoint headed c.in-Read-joint.is = joint_read headed refl refl c.in-Read-joint.is c.joint.ensures in
+    clock_room front
 
 pub returns-in_default-clock : goal.returns-in_default-clock
 returns-in_default-clock c =
     let opened : Opened DatetimeTz c.digits_in-digits.result c.args.s.now = record { found = c.digits_in-digits.ensures; few = c.if-digits-gt-MAX_DIGITS.false } in
-    let headed : AfterDate (opened) c.in-Read.is = date_read (opened) refl c.in-Read.is c.date.ensures in
-    let front : AfterJoint (headed) c.in-Read-joint.is = joint_read (headed) refl refl c.in-Read-joint.is c.joint.ensures in
-    clock_wrong (front) c.in_default-clock.is c.clock.ensures.0
+    let headed : AfterDate opened c.in-Read.is = date_read opened refl c.in-Read.is c.date.ensures in
+    let front : AfterJoint headed c.in-Read-joint.is = joint_read headed refl refl c.in-Read-joint.is c.joint.ensures in
+    clock_wrong front c.in_default-clock.is c.clock.ensures.0
 
 pub fraction-requires : goal.fraction-requires
 fraction-requires c =
     let opened : Opened DatetimeTz c.digits_in-digits.result c.args.s.now = record { found = c.digits_in-digits.ensures; few = c.if-digits-gt-MAX_DIGITS.false } in
-    let headed : AfterDate (opened) c.in-Read.is = date_read (opened) refl c.in-Read.is c.date.ensures in
-    let front : AfterJoint (headed) c.in-Read-joint.is = joint_read (headed) refl refl c.in-Read-joint.is c.joint.ensures in
-    let paired : AfterClock (front) c.in-Read-clock.is = clock_read (front) c.in-Read-clock.is c.clock.ensures in
-    part_room (paired)
+    let headed : AfterDate opened c.in-Read.is = date_read opened refl c.in-Read.is c.date.ensures in
+    let front : AfterJoint headed c.in-Read-joint.is = joint_read headed refl refl c.in-Read-joint.is c.joint.ensures in
+    let paired : AfterClock front c.in-Read-clock.is = clock_read front c.in-Read-clock.is c.clock.ensures in
+    part_room paired
 
 pub returns-in_default-fraction : goal.returns-in_default-fraction
 returns-in_default-fraction c =
     let opened : Opened DatetimeTz c.digits_in-digits.result c.args.s.now = record { found = c.digits_in-digits.ensures; few = c.if-digits-gt-MAX_DIGITS.false } in
-    let headed : AfterDate (opened) c.in-Read.is = date_read (opened) refl c.in-Read.is c.date.ensures in
-    let front : AfterJoint (headed) c.in-Read-joint.is = joint_read (headed) refl refl c.in-Read-joint.is c.joint.ensures in
-    let paired : AfterClock (front) c.in-Read-clock.is = clock_read (front) c.in-Read-clock.is c.clock.ensures in
-    part_wrong (paired) c.in_default-fraction.is c.fraction.ensures.0
+    let headed : AfterDate opened c.in-Read.is = date_read opened refl c.in-Read.is c.date.ensures in
+    let front : AfterJoint headed c.in-Read-joint.is = joint_read headed refl refl c.in-Read-joint.is c.joint.ensures in
+    let paired : AfterClock front c.in-Read-clock.is = clock_read front c.in-Read-clock.is c.clock.ensures in
+    part_wrong paired c.in_default-fraction.is c.fraction.ensures.0
 
 pub zone-requires : goal.zone-requires
 zone-requires c =
     let opened : Opened DatetimeTz c.digits_in-digits.result c.args.s.now = record { found = c.digits_in-digits.ensures; few = c.if-digits-gt-MAX_DIGITS.false } in
-    let headed : AfterDate (opened) c.in-Read.is = date_read (opened) refl c.in-Read.is c.date.ensures in
-    let front : AfterJoint (headed) c.in-Read-joint.is = joint_read (headed) refl refl c.in-Read-joint.is c.joint.ensures in
-    let paired : AfterClock (front) c.in-Read-clock.is = clock_read (front) c.in-Read-clock.is c.clock.ensures in
-    let rear : AfterPart (paired) c.in-Read-fraction.is = part_read (paired) c.in-Read-fraction.is c.fraction.ensures in
-    zone_room (rear) refl
+    let headed : AfterDate opened c.in-Read.is = date_read opened refl c.in-Read.is c.date.ensures in
+    let front : AfterJoint headed c.in-Read-joint.is = joint_read headed refl refl c.in-Read-joint.is c.joint.ensures in
+    let paired : AfterClock front c.in-Read-clock.is = clock_read front c.in-Read-clock.is c.clock.ensures in
+    let rear : AfterPart paired c.in-Read-fraction.is = part_read paired c.in-Read-fraction.is c.fraction.ensures in
+    zone_room rear refl
 
 pub returns-in_default-zone : goal.returns-in_default-zone
 returns-in_default-zone c =
     let opened : Opened DatetimeTz c.digits_in-digits.result c.args.s.now = record { found = c.digits_in-digits.ensures; few = c.if-digits-gt-MAX_DIGITS.false } in
-    let headed : AfterDate (opened) c.in-Read.is = date_read (opened) refl c.in-Read.is c.date.ensures in
-    let front : AfterJoint (headed) c.in-Read-joint.is = joint_read (headed) refl refl c.in-Read-joint.is c.joint.ensures in
-    let paired : AfterClock (front) c.in-Read-clock.is = clock_read (front) c.in-Read-clock.is c.clock.ensures in
-    let rear : AfterPart (paired) c.in-Read-fraction.is = part_read (paired) c.in-Read-fraction.is c.fraction.ensures in
-    zone_wrong (rear) c.in_default-zone.is c.zone.ensures.0
+    let headed : AfterDate opened c.in-Read.is = date_read opened refl c.in-Read.is c.date.ensures in
+    let front : AfterJoint headed c.in-Read-joint.is = joint_read headed refl refl c.in-Read-joint.is c.joint.ensures in
+    let paired : AfterClock front c.in-Read-clock.is = clock_read front c.in-Read-clock.is c.clock.ensures in
+    let rear : AfterPart paired c.in-Read-fraction.is = part_read paired c.in-Read-fraction.is c.fraction.ensures in
+    zone_wrong rear c.in_default-zone.is c.zone.ensures.0
 
 pub new-clock-requires : goal.new-clock-requires
 new-clock-requires c =
     let opened : Opened DatetimeTz c.digits_in-digits.result c.args.s.now = record { found = c.digits_in-digits.ensures; few = c.if-digits-gt-MAX_DIGITS.false } in
-    let headed : AfterDate (opened) c.in-Read.is = date_read (opened) refl c.in-Read.is c.date.ensures in
-    let front : AfterJoint (headed) c.in-Read-joint.is = joint_read (headed) refl refl c.in-Read-joint.is c.joint.ensures in
-    let paired : AfterClock (front) c.in-Read-clock.is = clock_read (front) c.in-Read-clock.is c.clock.ensures in
-    clock_small (paired)
+    let headed : AfterDate opened c.in-Read.is = date_read opened refl c.in-Read.is c.date.ensures in
+    let front : AfterJoint headed c.in-Read-joint.is = joint_read headed refl refl c.in-Read-joint.is c.joint.ensures in
+    let paired : AfterClock front c.in-Read-clock.is = clock_read front c.in-Read-clock.is c.clock.ensures in
+    clock_small paired
 
 pub returns-then-is_minus_zero : goal.returns-then-is_minus_zero
 returns-then-is_minus_zero c =
     let opened : Opened DatetimeTz c.digits_in-digits.result c.args.s.now = record { found = c.digits_in-digits.ensures; few = c.if-digits-gt-MAX_DIGITS.false } in
-    let headed : AfterDate (opened) c.in-Read.is = date_read (opened) refl c.in-Read.is c.date.ensures in
-    let front : AfterJoint (headed) c.in-Read-joint.is = joint_read (headed) refl refl c.in-Read-joint.is c.joint.ensures in
-    let paired : AfterClock (front) c.in-Read-clock.is = clock_read (front) c.in-Read-clock.is c.clock.ensures in
-    let rear : AfterPart (paired) c.in-Read-fraction.is = part_read (paired) c.in-Read-fraction.is c.fraction.ensures in
-    let said : AfterAll (rear) c.new-clock.result c.in-Read-zone.zone = let z = c in
-    zone_read (rear) c.new-clock.ensures z.in-Read-zone.is z.zone.ensures.0 in
-    is_redundant (said) c.is_minus_zero.ensures c.if-is_minus_zero.true
+    let headed : AfterDate opened c.in-Read.is = date_read opened refl c.in-Read.is c.date.ensures in
+    let front : AfterJoint headed c.in-Read-joint.is = joint_read headed refl refl c.in-Read-joint.is c.joint.ensures in
+    let paired : AfterClock front c.in-Read-clock.is = clock_read front c.in-Read-clock.is c.clock.ensures in
+    let rear : AfterPart paired c.in-Read-fraction.is = part_read paired c.in-Read-fraction.is c.fraction.ensures in
+    let said : AfterAll rear c.new-clock.result c.in-Read-zone.zone = zone_read rear c.new-clock.ensures c.in-Read-zone.is c.zone.ensures.0 in
+    is_redundant said c.is_minus_zero.ensures c.if-is_minus_zero.true
 
 pub returns-then-not-is_day : goal.returns-then-not-is_day
 returns-then-not-is_day c =
     let opened : Opened DatetimeTz c.digits_in-digits.result c.args.s.now = record { found = c.digits_in-digits.ensures; few = c.if-digits-gt-MAX_DIGITS.false } in
-    let headed : AfterDate (opened) c.in-Read.is = date_read (opened) refl c.in-Read.is c.date.ensures in
-    let front : AfterJoint (headed) c.in-Read-joint.is = joint_read (headed) refl refl c.in-Read-joint.is c.joint.ensures in
-    let paired : AfterClock (front) c.in-Read-clock.is = clock_read (front) c.in-Read-clock.is c.clock.ensures in
-    let rear : AfterPart (paired) c.in-Read-fraction.is = part_read (paired) c.in-Read-fraction.is c.fraction.ensures in
-    let said : AfterAll (rear) c.new-clock.result c.in-Read-zone.zone = let z = c in
-    zone_read (rear) c.new-clock.ensures z.in-Read-zone.is z.zone.ensures.0 in
-    let plain : AfterSign (said) = not_redundant (said) c.is_minus_zero.ensures c.if-is_minus_zero.false in
-    let p = c in
-    no_day (plain) p.in_range-is_day.ensures c.if-not-is_day.true-raw
+    let headed : AfterDate opened c.in-Read.is = date_read opened refl c.in-Read.is c.date.ensures in
+    let front : AfterJoint headed c.in-Read-joint.is = joint_read headed refl refl c.in-Read-joint.is c.joint.ensures in
+    let paired : AfterClock front c.in-Read-clock.is = clock_read front c.in-Read-clock.is c.clock.ensures in
+    let rear : AfterPart paired c.in-Read-fraction.is = part_read paired c.in-Read-fraction.is c.fraction.ensures in
+    let said : AfterAll rear c.new-clock.result c.in-Read-zone.zone = zone_read rear c.new-clock.ensures c.in-Read-zone.is c.zone.ensures.0 in
+    let plain : AfterSign said = not_redundant said c.is_minus_zero.ensures c.if-is_minus_zero.false in
+    no_day plain c.in_range-is_day.ensures c.if-not-is_day.true-raw
 
 pub returns-then-not-in_range : goal.returns-then-not-in_range
 returns-then-not-in_range c =
     let opened : Opened DatetimeTz c.digits_in-digits.result c.args.s.now = record { found = c.digits_in-digits.ensures; few = c.if-digits-gt-MAX_DIGITS.false } in
-    let headed : AfterDate (opened) c.in-Read.is = date_read (opened) refl c.in-Read.is c.date.ensures in
-    let front : AfterJoint (headed) c.in-Read-joint.is = joint_read (headed) refl refl c.in-Read-joint.is c.joint.ensures in
-    let paired : AfterClock (front) c.in-Read-clock.is = clock_read (front) c.in-Read-clock.is c.clock.ensures in
-    let rear : AfterPart (paired) c.in-Read-fraction.is = part_read (paired) c.in-Read-fraction.is c.fraction.ensures in
-    let said : AfterAll (rear) c.new-clock.result c.in-Read-zone.zone = let z = c in
-    zone_read (rear) c.new-clock.ensures z.in-Read-zone.is z.zone.ensures.0 in
-    let plain : AfterSign (said) = not_redundant (said) c.is_minus_zero.ensures c.if-is_minus_zero.false in
-    no_time (plain) c.in_range.ensures c.if-not-in_range.true-raw
+    let headed : AfterDate opened c.in-Read.is = date_read opened refl c.in-Read.is c.date.ensures in
+    let front : AfterJoint headed c.in-Read-joint.is = joint_read headed refl refl c.in-Read-joint.is c.joint.ensures in
+    let paired : AfterClock front c.in-Read-clock.is = clock_read front c.in-Read-clock.is c.clock.ensures in
+    let rear : AfterPart paired c.in-Read-fraction.is = part_read paired c.in-Read-fraction.is c.fraction.ensures in
+    let said : AfterAll rear c.new-clock.result c.in-Read-zone.zone = zone_read rear c.new-clock.ensures c.in-Read-zone.is c.zone.ensures.0 in
+    let plain : AfterSign said = not_redundant said c.is_minus_zero.ensures c.if-is_minus_zero.false in
+    no_time plain c.in_range.ensures c.if-not-in_range.true-raw
 
 pub returns-then-not-in_range-2 : goal.returns-then-not-in_range-2
 returns-then-not-in_range-2 c =
     let opened : Opened DatetimeTz c.digits_in-digits.result c.args.s.now = record { found = c.digits_in-digits.ensures; few = c.if-digits-gt-MAX_DIGITS.false } in
-    let headed : AfterDate (opened) c.in-Read.is = date_read (opened) refl c.in-Read.is c.date.ensures in
-    let front : AfterJoint (headed) c.in-Read-joint.is = joint_read (headed) refl refl c.in-Read-joint.is c.joint.ensures in
-    let paired : AfterClock (front) c.in-Read-clock.is = clock_read (front) c.in-Read-clock.is c.clock.ensures in
-    let rear : AfterPart (paired) c.in-Read-fraction.is = part_read (paired) c.in-Read-fraction.is c.fraction.ensures in
-    let said : AfterAll (rear) c.new-clock.result c.in-Read-zone.zone = let z = c in
-    zone_read (rear) c.new-clock.ensures z.in-Read-zone.is z.zone.ensures.0 in
-    let plain : AfterSign (said) = not_redundant (said) c.is_minus_zero.ensures c.if-is_minus_zero.false in
-    no_zone_lem (plain) c.in_range-2.ensures c.if-not-in_range-2.true-raw
+    let headed : AfterDate opened c.in-Read.is = date_read opened refl c.in-Read.is c.date.ensures in
+    let front : AfterJoint headed c.in-Read-joint.is = joint_read headed refl refl c.in-Read-joint.is c.joint.ensures in
+    let paired : AfterClock front c.in-Read-clock.is = clock_read front c.in-Read-clock.is c.clock.ensures in
+    let rear : AfterPart paired c.in-Read-fraction.is = part_read paired c.in-Read-fraction.is c.fraction.ensures in
+    let said : AfterAll rear c.new-clock.result c.in-Read-zone.zone = zone_read rear c.new-clock.ensures c.in-Read-zone.is c.zone.ensures.0 in
+    let plain : AfterSign said = not_redundant said c.is_minus_zero.ensures c.if-is_minus_zero.false in
+    no_zone_lem plain c.in_range-2.ensures c.if-not-in_range-2.true-raw
 
 pub offset-offset-requires : goal.offset-offset-requires
 offset-offset-requires c = zone_small _ _ (passes c.in_range-2.ensures c.if-not-in_range-2.false-raw)
@@ -142,14 +137,10 @@ offset-offset-requires c = zone_small _ _ (passes c.in_range-2.ensures c.if-not-
 pub returns : goal.returns
 returns c =
     let opened : Opened DatetimeTz c.digits_in-digits.result c.args.s.now = record { found = c.digits_in-digits.ensures; few = c.if-digits-gt-MAX_DIGITS.false } in
-    let headed : AfterDate (opened) c.in-Read.is = date_read (opened) refl c.in-Read.is c.date.ensures in
-    let front : AfterJoint (headed) c.in-Read-joint.is = joint_read (headed) refl refl c.in-Read-joint.is c.joint.ensures in
-    let paired : AfterClock (front) c.in-Read-clock.is = clock_read (front) c.in-Read-clock.is c.clock.ensures in
-    let rear : AfterPart (paired) c.in-Read-fraction.is = part_read (paired) c.in-Read-fraction.is c.fraction.ensures in
-    let said : AfterAll (rear) c.new-clock.result c.in-Read-zone.zone = let z = c in
-    zone_read (rear) c.new-clock.ensures z.in-Read-zone.is z.zone.ensures.0 in
-    let plain : AfterSign (said) = not_redundant (said) c.is_minus_zero.ensures c.if-is_minus_zero.false in
-    let zone = c in
-    let time = zone in
-    let day = time in
-    stamped (plain) (passes day.in_range-is_day.ensures day.if-not-is_day.false-raw) (passes time.in_range.ensures time.if-not-in_range.false-raw) (passes zone.in_range-2.ensures zone.if-not-in_range-2.false-raw) refl refl c.offset-offset.ensures
+    let headed : AfterDate opened c.in-Read.is = date_read opened refl c.in-Read.is c.date.ensures in
+    let front : AfterJoint headed c.in-Read-joint.is = joint_read headed refl refl c.in-Read-joint.is c.joint.ensures in
+    let paired : AfterClock front c.in-Read-clock.is = clock_read front c.in-Read-clock.is c.clock.ensures in
+    let rear : AfterPart paired c.in-Read-fraction.is = part_read paired c.in-Read-fraction.is c.fraction.ensures in
+    let said : AfterAll rear c.new-clock.result c.in-Read-zone.zone = zone_read rear c.new-clock.ensures c.in-Read-zone.is c.zone.ensures.0 in
+    let plain : AfterSign said = not_redundant said c.is_minus_zero.ensures c.if-is_minus_zero.false in
+    stamped plain (passes c.in_range-is_day.ensures c.if-not-is_day.false-raw) (passes c.in_range.ensures c.if-not-in_range.false-raw) (passes c.in_range-2.ensures c.if-not-in_range-2.false-raw) refl refl c.offset-offset.ensures

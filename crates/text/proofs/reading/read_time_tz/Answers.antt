@@ -15,73 +15,70 @@ returns-then-digits-gt-MAX_DIGITS c = too_many TimeTz _ c.args.s.now c.digits_in
 pub clock-requires : goal.clock-requires
 clock-requires c =
     let front : Front TimeTz c.digits_in-digits.result c.args.s.now no_date 0 = alone (record { found = c.digits_in-digits.ensures; few = c.if-digits-gt-MAX_DIGITS.false }) refl refl in
-    clock_room (front)
+    clock_room front
 
 pub returns-in_default : goal.returns-in_default
 returns-in_default c =
     let front : Front TimeTz c.digits_in-digits.result c.args.s.now no_date 0 = alone (record { found = c.digits_in-digits.ensures; few = c.if-digits-gt-MAX_DIGITS.false }) refl refl in
-    clock_wrong (front) c.in_default.is c.clock.ensures.0
+    clock_wrong front c.in_default.is c.clock.ensures.0
 
 pub fraction-requires : goal.fraction-requires
 fraction-requires c =
     let front : Front TimeTz c.digits_in-digits.result c.args.s.now no_date 0 = alone (record { found = c.digits_in-digits.ensures; few = c.if-digits-gt-MAX_DIGITS.false }) refl refl in
-    let paired : AfterClock (front) c.in-Read.is = clock_read (front) c.in-Read.is c.clock.ensures in
-    part_room (paired)
+    let paired : AfterClock front c.in-Read.is = clock_read front c.in-Read.is c.clock.ensures in
+    part_room paired
 
 pub returns-in_default-fraction : goal.returns-in_default-fraction
 returns-in_default-fraction c =
     let front : Front TimeTz c.digits_in-digits.result c.args.s.now no_date 0 = alone (record { found = c.digits_in-digits.ensures; few = c.if-digits-gt-MAX_DIGITS.false }) refl refl in
-    let paired : AfterClock (front) c.in-Read.is = clock_read (front) c.in-Read.is c.clock.ensures in
-    part_wrong (paired) c.in_default-fraction.is c.fraction.ensures.0
+    let paired : AfterClock front c.in-Read.is = clock_read front c.in-Read.is c.clock.ensures in
+    part_wrong paired c.in_default-fraction.is c.fraction.ensures.0
 
 pub zone-requires : goal.zone-requires
 zone-requires c =
     let front : Front TimeTz c.digits_in-digits.result c.args.s.now no_date 0 = alone (record { found = c.digits_in-digits.ensures; few = c.if-digits-gt-MAX_DIGITS.false }) refl refl in
-    let paired : AfterClock (front) c.in-Read.is = clock_read (front) c.in-Read.is c.clock.ensures in
-    let rear : AfterPart (paired) c.in-Read-fraction.is = part_read (paired) c.in-Read-fraction.is c.fraction.ensures in
-    zone_room (rear) refl
+    let paired : AfterClock front c.in-Read.is = clock_read front c.in-Read.is c.clock.ensures in
+    let rear : AfterPart paired c.in-Read-fraction.is = part_read paired c.in-Read-fraction.is c.fraction.ensures in
+    zone_room rear refl
 
 pub returns-in_default-zone : goal.returns-in_default-zone
 returns-in_default-zone c =
     let front : Front TimeTz c.digits_in-digits.result c.args.s.now no_date 0 = alone (record { found = c.digits_in-digits.ensures; few = c.if-digits-gt-MAX_DIGITS.false }) refl refl in
-    let paired : AfterClock (front) c.in-Read.is = clock_read (front) c.in-Read.is c.clock.ensures in
-    let rear : AfterPart (paired) c.in-Read-fraction.is = part_read (paired) c.in-Read-fraction.is c.fraction.ensures in
-    zone_wrong (rear) c.in_default-zone.is c.zone.ensures.0
+    let paired : AfterClock front c.in-Read.is = clock_read front c.in-Read.is c.clock.ensures in
+    let rear : AfterPart paired c.in-Read-fraction.is = part_read paired c.in-Read-fraction.is c.fraction.ensures in
+    zone_wrong rear c.in_default-zone.is c.zone.ensures.0
 
 pub new-clock-requires : goal.new-clock-requires
 new-clock-requires c =
     let front : Front TimeTz c.digits_in-digits.result c.args.s.now no_date 0 = alone (record { found = c.digits_in-digits.ensures; few = c.if-digits-gt-MAX_DIGITS.false }) refl refl in
-    let paired : AfterClock (front) c.in-Read.is = clock_read (front) c.in-Read.is c.clock.ensures in
-    clock_small (paired)
+    let paired : AfterClock front c.in-Read.is = clock_read front c.in-Read.is c.clock.ensures in
+    clock_small paired
 
 pub returns-then-is_minus_zero : goal.returns-then-is_minus_zero
 returns-then-is_minus_zero c =
     let front : Front TimeTz c.digits_in-digits.result c.args.s.now no_date 0 = alone (record { found = c.digits_in-digits.ensures; few = c.if-digits-gt-MAX_DIGITS.false }) refl refl in
-    let paired : AfterClock (front) c.in-Read.is = clock_read (front) c.in-Read.is c.clock.ensures in
-    let rear : AfterPart (paired) c.in-Read-fraction.is = part_read (paired) c.in-Read-fraction.is c.fraction.ensures in
-    let said : AfterAll (rear) c.new-clock.result c.in-Read-zone.zone = let z = c in
-    zone_read (rear) c.new-clock.ensures z.in-Read-zone.is z.zone.ensures.0 in
-    is_redundant (said) c.is_minus_zero.ensures c.if-is_minus_zero.true
+    let paired : AfterClock front c.in-Read.is = clock_read front c.in-Read.is c.clock.ensures in
+    let rear : AfterPart paired c.in-Read-fraction.is = part_read paired c.in-Read-fraction.is c.fraction.ensures in
+    let said : AfterAll rear c.new-clock.result c.in-Read-zone.zone = zone_read rear c.new-clock.ensures c.in-Read-zone.is c.zone.ensures.0 in
+    is_redundant said c.is_minus_zero.ensures c.if-is_minus_zero.true
 
 pub returns-then-not-in_range : goal.returns-then-not-in_range
 returns-then-not-in_range c =
     let front : Front TimeTz c.digits_in-digits.result c.args.s.now no_date 0 = alone (record { found = c.digits_in-digits.ensures; few = c.if-digits-gt-MAX_DIGITS.false }) refl refl in
-    let paired : AfterClock (front) c.in-Read.is = clock_read (front) c.in-Read.is c.clock.ensures in
-    let rear : AfterPart (paired) c.in-Read-fraction.is = part_read (paired) c.in-Read-fraction.is c.fraction.ensures in
-    let said : AfterAll (rear) c.new-clock.result c.in-Read-zone.zone = let z = c in
-    zone_read (rear) c.new-clock.ensures z.in-Read-zone.is z.zone.ensures.0 in
-    let plain : AfterSign (said) = not_redundant (said) c.is_minus_zero.ensures c.if-is_minus_zero.false in
-    no_time (plain) c.in_range.ensures c.if-not-in_range.true-raw
+    let paired : AfterClock front c.in-Read.is = clock_read front c.in-Read.is c.clock.ensures in
+    let rear : AfterPart paired c.in-Read-fraction.is = part_read paired c.in-Read-fraction.is c.fraction.ensures in
+    let said : AfterAll rear c.new-clock.result c.in-Read-zone.zone = zone_read rear c.new-clock.ensures c.in-Read-zone.is c.zone.ensures.0 in
+    let plain : AfterSign said = not_redundant said c.is_minus_zero.ensures c.if-is_minus_zero.false in
+    no_time plain c.in_range.ensures c.if-not-in_range.true-raw
 
 pub returns-then-not-in_range-2 : goal.returns-then-not-in_range-2
 returns-then-not-in_range-2 c =
     let front : Front TimeTz c.digits_in-digits.result c.args.s.now no_date 0 = alone (record { found = c.digits_in-digits.ensures; few = c.if-digits-gt-MAX_DIGITS.false }) refl refl in
-    let paired : AfterClock (front) c.in-Read.is = clock_read (front) c.in-Read.is c.clock.ensures in
-    let rear : AfterPart (paired) c.in-Read-fraction.is = part_read (paired) c.in-Read-fraction.is c.fraction.ensures in
-    let said : AfterAll (rear) c.new-clock.result c.in-Read-zone.zone = let z = c in
-    zone_read (rear) c.new-clock.ensures z.in-Read-zone.is z.zone.ensures.0 in
-    let plain : AfterSign (said) = not_redundant (said) c.is_minus_zero.ensures c.if-is_minus_zero.false in
-    no_zone_lem (plain) c.in_range-2.ensures c.if-not-in_range-2.true-raw
+    let paired : AfterClock front c.in-Read.is = clock_read front c.in-Read.is c.clock.ensures in
+    let rear : AfterPart paired c.in-Read-fraction.is = part_read paired c.in-Read-fraction.is c.fraction.ensures in
+    let said : AfterAll rear c.new-clock.result c.in-Read-zone.zone = zone_read rear c.new-clock.ensures c.in-Read-zone.is c.zone.ensures.0 in
+    let plain : AfterSign said = not_redundant said c.is_minus_zero.ensures c.if-is_minus_zero.false in
+    no_zone_lem plain c.in_range-2.ensures c.if-not-in_range-2.true-raw
 
 pub offset-offset-requires : goal.offset-offset-requires
 offset-offset-requires c = zone_small _ _ (passes c.in_range-2.ensures c.if-not-in_range-2.false-raw)
@@ -89,11 +86,8 @@ offset-offset-requires c = zone_small _ _ (passes c.in_range-2.ensures c.if-not-
 pub returns : goal.returns
 returns c =
     let front : Front TimeTz c.digits_in-digits.result c.args.s.now no_date 0 = alone (record { found = c.digits_in-digits.ensures; few = c.if-digits-gt-MAX_DIGITS.false }) refl refl in
-    let paired : AfterClock (front) c.in-Read.is = clock_read (front) c.in-Read.is c.clock.ensures in
-    let rear : AfterPart (paired) c.in-Read-fraction.is = part_read (paired) c.in-Read-fraction.is c.fraction.ensures in
-    let said : AfterAll (rear) c.new-clock.result c.in-Read-zone.zone = let z = c in
-    zone_read (rear) c.new-clock.ensures z.in-Read-zone.is z.zone.ensures.0 in
-    let plain : AfterSign (said) = not_redundant (said) c.is_minus_zero.ensures c.if-is_minus_zero.false in
-    let zone = c in
-    let time = zone in
-    stamped (plain) refl (passes time.in_range.ensures time.if-not-in_range.false-raw) (passes zone.in_range-2.ensures zone.if-not-in_range-2.false-raw) (ap day_from c.new-date.ensures) refl c.offset-offset.ensures
+    let paired : AfterClock front c.in-Read.is = clock_read front c.in-Read.is c.clock.ensures in
+    let rear : AfterPart paired c.in-Read-fraction.is = part_read paired c.in-Read-fraction.is c.fraction.ensures in
+    let said : AfterAll rear c.new-clock.result c.in-Read-zone.zone = zone_read rear c.new-clock.ensures c.in-Read-zone.is c.zone.ensures.0 in
+    let plain : AfterSign said = not_redundant said c.is_minus_zero.ensures c.if-is_minus_zero.false in
+    stamped plain refl (passes c.in_range.ensures c.if-not-in_range.false-raw) (passes c.in_range-2.ensures c.if-not-in_range-2.false-raw) (ap day_from c.new-date.ensures) refl c.offset-offset.ensures

@@ -6,6 +6,16 @@ use Rattle.text.proofs.Rows.{passes}
 use Rattle.text.proofs.Wholes.{text_long}
 use Rattle.text.proofs.TextWriters.{Ready, date_refused, time_refused, offset_refused, joined_time, no_room, small, written_zone}
 use Rattle.text.proofs.writers.write_datetime_tz.Goals as goal
+use Rattle.text.proofs.writers.write_datetime_tz.Goals.{After-fraction_length-zone}
+
+-- what the tests of the parts leave
+ready : (c : After-fraction_length-zone) → Ready DatetimeTz c.args.digits (value_from c.args.value) (19 + c.fraction_length-zone.result + 6)
+ready c =
+    record {
+      ranges = record { date = passes c.in_range.ensures c.if-not-in_range.false-raw; time = passes c.in_range-2.ensures c.if-not-in_range-2.false-raw; offset = passes c.in_range-3.ensures c.if-not-in_range-3.false-raw };
+      few = c.requires;
+      long = omega (arith, text_long DatetimeTz c.args.digits, c.fraction_length-zone.ensures);
+    }
 
 pub returns-then-not-in_range : goal.returns-then-not-in_range
 returns-then-not-in_range c = date_refused DatetimeTz _ _ _ refl c.in_range.ensures c.if-not-in_range.true-raw
@@ -17,90 +27,24 @@ pub returns-then-not-in_range-3 : goal.returns-then-not-in_range-3
 returns-then-not-in_range-3 c = offset_refused DatetimeTz _ _ _ refl c.in_range-3.ensures c.if-not-in_range-3.true-raw
 
 pub overflow_add-zone : goal.overflow_add-zone
-overflow_add-zone c =
-    let ready : Ready DatetimeTz c.args.digits (value_from c.args.value) (19 + c.fraction_length-zone.result + 6) = let offset = c in
-    let time = offset in
-    let date = time in
-    record {
-      ranges = record { date = passes date.in_range.ensures date.if-not-in_range.false-raw; time = passes time.in_range-2.ensures time.if-not-in_range-2.false-raw; offset = passes offset.in_range-3.ensures offset.if-not-in_range-3.false-raw };
-      few = c.requires;
-      long = omega (arith, text_long DatetimeTz c.args.digits, c.fraction_length-zone.ensures);
-    } in
-    omega (arith, small (ready))
+overflow_add-zone c = omega (arith, small (ready (goal.at.overflow_add-zone c).After-fraction_length-zone))
 
 pub overflow_add-length : goal.overflow_add-length
-overflow_add-length c =
-    let ready : Ready DatetimeTz c.args.digits (value_from c.args.value) (19 + c.fraction_length-zone.result + 6) = let offset = c in
-    let time = offset in
-    let date = time in
-    record {
-      ranges = record { date = passes date.in_range.ensures date.if-not-in_range.false-raw; time = passes time.in_range-2.ensures time.if-not-in_range-2.false-raw; offset = passes offset.in_range-3.ensures offset.if-not-in_range-3.false-raw };
-      few = c.requires;
-      long = omega (arith, text_long DatetimeTz c.args.digits, c.fraction_length-zone.ensures);
-    } in
-    omega (arith, small (ready))
+overflow_add-length c = omega (arith, small (ready (goal.at.overflow_add-length c).After-fraction_length-zone))
 
 pub returns-then-buf-length : goal.returns-then-buf-length
-returns-then-buf-length c =
-    let ready : Ready DatetimeTz c.args.digits (value_from c.args.value) (19 + c.fraction_length-zone.result + 6) = let offset = c in
-    let time = offset in
-    let date = time in
-    record {
-      ranges = record { date = passes date.in_range.ensures date.if-not-in_range.false-raw; time = passes time.in_range-2.ensures time.if-not-in_range-2.false-raw; offset = passes offset.in_range-3.ensures offset.if-not-in_range-3.false-raw };
-      few = c.requires;
-      long = omega (arith, text_long DatetimeTz c.args.digits, c.fraction_length-zone.ensures);
-    } in
-    no_room (ready) _ c.if-buf-length.true
+returns-then-buf-length c = no_room (ready (goal.at.returns-then-buf-length c).After-fraction_length-zone) _ c.if-buf-length.true
 
 pub put_date-requires : goal.put_date-requires
-put_date-requires c =
-    let ready : Ready DatetimeTz c.args.digits (value_from c.args.value) (19 + c.fraction_length-zone.result + 6) = let offset = c in
-    let time = offset in
-    let date = time in
-    record {
-      ranges = record { date = passes date.in_range.ensures date.if-not-in_range.false-raw; time = passes time.in_range-2.ensures time.if-not-in_range-2.false-raw; offset = passes offset.in_range-3.ensures offset.if-not-in_range-3.false-raw };
-      few = c.requires;
-      long = omega (arith, text_long DatetimeTz c.args.digits, c.fraction_length-zone.ensures);
-    } in
-    (ready.ranges.date, search rules)
+put_date-requires c = ((ready (goal.at.put_date-requires c).After-fraction_length-zone).ranges.date, search rules)
 
 pub put_time-requires : goal.put_time-requires
-put_time-requires c =
-    let ready : Ready DatetimeTz c.args.digits (value_from c.args.value) (19 + c.fraction_length-zone.result + 6) = let offset = c in
-    let time = offset in
-    let date = time in
-    record {
-      ranges = record { date = passes date.in_range.ensures date.if-not-in_range.false-raw; time = passes time.in_range-2.ensures time.if-not-in_range-2.false-raw; offset = passes offset.in_range-3.ensures offset.if-not-in_range-3.false-raw };
-      few = c.requires;
-      long = omega (arith, text_long DatetimeTz c.args.digits, c.fraction_length-zone.ensures);
-    } in
-    let r = ready in (r.ranges.time, r.few, search rules)
+put_time-requires c = let r = ready (goal.at.put_time-requires c).After-fraction_length-zone in (r.ranges.time, r.few, search rules)
 
 pub put_offset-requires : goal.put_offset-requires
-put_offset-requires c =
-    let ready : Ready DatetimeTz c.args.digits (value_from c.args.value) (19 + c.fraction_length-zone.result + 6) = let offset = c in
-    let time = offset in
-    let date = time in
-    record {
-      ranges = record { date = passes date.in_range.ensures date.if-not-in_range.false-raw; time = passes time.in_range-2.ensures time.if-not-in_range-2.false-raw; offset = passes offset.in_range-3.ensures offset.if-not-in_range-3.false-raw };
-      few = c.requires;
-      long = omega (arith, text_long DatetimeTz c.args.digits, c.fraction_length-zone.ensures);
-    } in
-    (ready.ranges.offset, search rules)
+put_offset-requires c = ((ready (goal.at.put_offset-requires c).After-fraction_length-zone).ranges.offset, search rules)
 
 pub returns : goal.returns
 returns c =
-    let ready : Ready DatetimeTz c.args.digits (value_from c.args.value) (19 + c.fraction_length-zone.result + 6) = let offset = c in
-    let time = offset in
-    let date = time in
-    record {
-      ranges = record { date = passes date.in_range.ensures date.if-not-in_range.false-raw; time = passes time.in_range-2.ensures time.if-not-in_range-2.false-raw; offset = passes offset.in_range-3.ensures offset.if-not-in_range-3.false-raw };
-      few = c.requires;
-      long = omega (arith, text_long DatetimeTz c.args.digits, c.fraction_length-zone.ensures);
-    } in
-    let time = c in
-    let joint = time in
-    let date = joint in
-    let room = date in
-    let stored = date.put_date.ensures in
-    written_zone (ready) room.if-buf-length.false stored (joined_time stored _ _ joint.put_joint.ensures time.put_time.ensures) refl _ refl c.put_offset.ensures
+    let stored = c.put_date.ensures in
+    written_zone (ready (goal.at.returns c).After-fraction_length-zone) c.if-buf-length.false stored (joined_time stored _ _ c.put_joint.ensures c.put_time.ensures) refl _ refl c.put_offset.ensures

@@ -10,21 +10,17 @@ century-century-requires c = (date_small (day_from c.args.date) c.requires.0).0
 
 pub two_digits-requires : goal.two_digits-requires
 two_digits-requires c =
-    let a = c in
-    omega (arith, c.century-century.ensures, (date_small (day_from a.args.date) a.requires.0).0)
+    omega (arith, c.century-century.ensures, (date_small (day_from c.args.date) c.requires.0).0)
 
 pub year_month_day-requires : goal.year_month_day-requires
 year_month_day-requires c =
-    let a = c in
-    let s = date_small (day_from a.args.date) a.requires.0 in
+    let s = date_small (day_from c.args.date) c.requires.0 in
     (omega (arith, c.century-century.ensures), s.1, s.2)
 
 pub returns : goal.returns
 returns c =
-    let y = c in
-    let a = y in
-    let s = date_small (day_from a.args.date) a.requires.0 in
-    let h = y.century-century.result in
+    let s = date_small (day_from c.args.date) c.requires.0 in
+    let h = c.century-century.result in
     c.put_low8.ensures
-    ∙ rw (c.put_low2.ensures, c.year_month_day.ensures, c.two_digits.ensures.word, two_word h (omega (arith, y.century-century.ensures, s.0)))
-    (date_stored a.args.buf.now (day_from a.args.date) h (a.args.date.year - 100 * h) y.century-century.ensures (omega (arith, y.century-century.ensures)))
+    ∙ rw (c.put_low2.ensures, c.year_month_day.ensures, c.two_digits.ensures.word, two_word h (omega (arith, c.century-century.ensures, s.0)))
+    (date_stored c.args.buf.now (day_from c.args.date) h (c.args.date.year - 100 * h) c.century-century.ensures (omega (arith, c.century-century.ensures)))

@@ -10,27 +10,22 @@ use Rattle.text.proofs.writing.put_offset.Goals as goal
 
 pub size-requires : goal.size-requires
 size-requires c =
-    let a = c in
-    let m = a.args.offset.minutes in
+    let m = c.args.offset.minutes in
     let e : to_z w32 (of_z w32 m) ≡ m = to_z-of_z {w = w32} (sfits_of (search rules)) in
-    rw e (offset_small m a.requires.0)
+    rw e (offset_small m c.requires.0)
 
 pub sign_hour_minute-word-requires : goal.sign_hour_minute-word-requires
 sign_hour_minute-word-requires c =
-    let a = c in
-    let m = a.args.offset.minutes in
+    let m = c.args.offset.minutes in
     let e : to_z w32 (of_z w32 m) ≡ m = to_z-of_z {w = w32} (sfits_of (search rules)) in
     let n : c.size.result ≡ nat_abs m = c.size.ensures ∙ ap nat_abs e in
-    omega (arith, offset_small m a.requires.0)
+    omega (arith, offset_small m c.requires.0)
 
 pub returns : goal.returns
 returns c =
-    let w = c in
-    let z = w in
-    let a = z in
-    let m = a.args.offset.minutes in
+    let m = c.args.offset.minutes in
     let e : to_z w32 (of_z w32 m) ≡ m = to_z-of_z {w = w32} (sfits_of (search rules)) in
-    let n : z.size.result ≡ nat_abs m = z.size.ensures ∙ ap nat_abs e in
-    let o : low_octets 6 w.sign_hour_minute-word.result ≡ offset_octets true m = w.sign_hour_minute-word.ensures ∙ rw (n, e) (offset_parts m) in
+    let n : c.size.result ≡ nat_abs m = c.size.ensures ∙ ap nat_abs e in
+    let o : low_octets 6 c.sign_hour_minute-word.result ≡ offset_octets true m = c.sign_hour_minute-word.ensures ∙ rw (n, e) (offset_parts m) in
     c.put_low2.ensures
-    ∙ rw c.put_low4.ensures (low_six a.args.buf.now a.args.at w.sign_hour_minute-word.result ∙ ap (sets a.args.buf.now a.args.at) o)
+    ∙ rw c.put_low4.ensures (low_six c.args.buf.now c.args.at c.sign_hour_minute-word.result ∙ ap (sets c.args.buf.now c.args.at) o)

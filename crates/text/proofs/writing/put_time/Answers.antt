@@ -9,18 +9,12 @@ hour_minute_second-clock-requires c = omega (arith, time_small c.args.time.micro
 
 pub shifted-requires : goal.shifted-requires
 shifted-requires c =
-    let l = c in
-    let a = l in
-    (omega (arith, l.fraction_length-octets.ensures, fraction_narrow a.args.digits, a.requires.1), l.point_digits-fraction.ensures.front)
+    (omega (arith, c.fraction_length-octets.ensures, fraction_narrow c.args.digits, c.requires.1), c.point_digits-fraction.ensures.front)
 
 pub returns : goal.returns
 returns c =
-    let l = c in
-    let p = l in
-    let k = p in
-    let a = k in
-    let few = fraction_narrow a.args.digits in
+    let few = fraction_narrow c.args.digits in
     c.put_low8-2.ensures
     ∙ rw (c.put_low8.ensures, c.shifted.ensures)
-    (time_stored a.args.buf.now a.args.at a.args.digits a.args.time.micros k.hour_minute_second-clock.result (p.point_digits-fraction.result / 256) l.fraction_length-octets.result
-    a.requires.1 l.fraction_length-octets.ensures (omega (arith, l.fraction_length-octets.ensures, few, a.requires.1)) k.hour_minute_second-clock.ensures p.point_digits-fraction.ensures.octets)
+    (time_stored c.args.buf.now c.args.at c.args.digits c.args.time.micros c.hour_minute_second-clock.result (c.point_digits-fraction.result / 256) c.fraction_length-octets.result
+    c.requires.1 c.fraction_length-octets.ensures (omega (arith, c.fraction_length-octets.ensures, few, c.requires.1)) c.hour_minute_second-clock.ensures c.point_digits-fraction.ensures.octets)

@@ -8,7 +8,6 @@ overflow_add-result-2 c = omega (arith, c.sign_mark.ensures, mark_small (to_z w3
 
 pub returns : goal.returns
 returns c =
-    let a = c in
-    let n = a.args.ahead in
-    rw (c.offset_digits.ensures.word, c.sign_mark.ensures, to_z-of_z a.ranges.minutes)
-    (offset_word a.args.minutes n (n / 60) (n - 60 * (n / 60)) refl (omega arith) a.requires)
+    let n = c.args.ahead in
+    rw (c.offset_digits.ensures.word, c.sign_mark.ensures, to_z-of_z c.ranges.minutes)
+    (offset_word c.args.minutes n (n / 60) (n - 60 * (n / 60)) refl (omega arith) c.requires)

@@ -4,5 +4,4 @@ use Rattle.text.proofs.writing.year_month_day.Goals as goal
 
 pub returns : goal.returns
 returns c =
-    let a = c in
-    rw c.clock_digits.ensures.word (date_word a.args.year a.args.month a.args.day a.requires)
+    rw c.clock_digits.ensures.word (date_word c.args.year c.args.month c.args.day c.requires)

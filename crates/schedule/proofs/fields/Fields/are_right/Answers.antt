@@ -25,11 +25,10 @@ returns-then-not-is_correction c =
 pub returns : goal.returns
 unfolding right
 returns c =
-    let e = c in
-    let x = e.args.self.correction in
-    let g : leb (nat_abs x) 1000000 ≡ true = rw (to_z-of_z {w = w64} {z = x} (sfits_of (search rules))) at (sym e.is_correction.ensures ∙ not_false _ e.if-not-is_correction.false-raw) in
+    let x = c.args.self.correction in
+    let g : leb (nat_abs x) 1000000 ≡ true = rw (to_z-of_z {w = w64} {z = x} (sfits_of (search rules))) at (sym c.is_correction.ensures ∙ not_false _ c.if-not-is_correction.false-raw) in
     rw (
-      sym e.is_channel.ensures ∙ not_false _ e.if-not-is_channel.false-raw,
+      sym c.is_channel.ensures ∙ not_false _ c.if-not-is_channel.false-raw,
       g,
       c.is_placed.ensures,
       c.end.ensures,

@@ -14,19 +14,19 @@ returns-in_default-three_pairs c = (date_no_rest _ _ 6 (sym c.three_pairs.ensure
 pub overflow_mul-century : goal.overflow_mul-century
 overflow_mul-century c =
     let place : ℕ = c.args.self.at in
-    let century : row_at century_row c.args.s.now (place) ≡ accepted (c.in-Read.century ∷ []) = sym c.pair.ensures ∙ ap number_row c.in-Read.is in
-    omega (arith, century_small _ _ _ (century))
+    let century : row_at century_row c.args.s.now place ≡ accepted (c.in-Read.century ∷ []) = sym c.pair.ensures ∙ ap number_row c.in-Read.is in
+    omega (arith, century_small _ _ _ century)
 
 pub overflow_add-century : goal.overflow_add-century
 overflow_add-century c =
     let place : ℕ = c.args.self.at in
-    let century : row_at century_row c.args.s.now (place) ≡ accepted (c.in-Read.century ∷ []) = sym c.pair.ensures ∙ ap number_row c.in-Read.is in
+    let century : row_at century_row c.args.s.now place ≡ accepted (c.in-Read.century ∷ []) = sym c.pair.ensures ∙ ap number_row c.in-Read.is in
     let rest : row_at (pairs_row 45) c.args.s.now (place + 2) ≡ accepted (c.in-Read-three_pairs.year ∷ c.in-Read-three_pairs.month ∷ c.in-Read-three_pairs.day ∷ []) = sym c.three_pairs.ensures ∙ ap three_row c.in-Read-three_pairs.is in
-    omega (arith, century_small _ _ _ (century), (three_small _ _ _ _ _ _ (rest)).first)
+    omega (arith, century_small _ _ _ century, (three_small _ _ _ _ _ _ rest).first)
 
 pub returns : goal.returns
 returns c =
     let place : ℕ = c.args.self.at in
-    let century : row_at century_row c.args.s.now (place) ≡ accepted (c.in-Read.century ∷ []) = sym c.pair.ensures ∙ ap number_row c.in-Read.is in
+    let century : row_at century_row c.args.s.now place ≡ accepted (c.in-Read.century ∷ []) = sym c.pair.ensures ∙ ap number_row c.in-Read.is in
     let rest : row_at (pairs_row 45) c.args.s.now (place + 2) ≡ accepted (c.in-Read-three_pairs.year ∷ c.in-Read-three_pairs.month ∷ c.in-Read-three_pairs.day ∷ []) = sym c.three_pairs.ensures ∙ ap three_row c.in-Read-three_pairs.is in
-    (rw c.new.ensures (date_done _ _ _ _ _ _ (century) (rest)), refl)
+    (rw c.new.ensures (date_done _ _ _ _ _ _ century rest), refl)

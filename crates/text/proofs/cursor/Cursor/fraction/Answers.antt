@@ -19,8 +19,7 @@ returns-in_default c = (sym (ap number_row c.in_default.is) ∙ c.thousandths.en
 
 pub returns-then-digits-eq3 : goal.returns-then-digits-eq3
 returns-then-digits-eq3 c =
-    let three = c in
-    (sym (ap number_row c.in-Read.is) ∙ c.thousandths.ensures ∙ rw three.if-digits-eq3.true, omega (arith, wide (goal.at.returns-then-digits-eq3 c).Then-digits-eq3))
+    (sym (ap number_row c.in-Read.is) ∙ c.thousandths.ensures ∙ rw c.if-digits-eq3.true, omega (arith, wide (goal.at.returns-then-digits-eq3 c).Then-digits-eq3))
 
 pub returns-in_default-digit_by_digit : goal.returns-in_default-digit_by_digit
 returns-in_default-digit_by_digit c = (sym (ap number_row c.in_default-digit_by_digit.is) ∙ c.digit_by_digit.ensures, tt)

@@ -13,6 +13,4 @@ returns-in_default c = (zone_no_rest _ _ 6 (sym c.two_pairs.ensures ∙ ap two_r
 
 pub returns : goal.returns
 returns c =
-    let told = c in
-    let signed = told in
-    (zone_done _ _ _ _ _ c.is_minus.ensures (sym signed.is_sign.ensures ∙ not_false _ signed.if-not-is_sign.false-raw) (sym told.two_pairs.ensures ∙ ap two_row told.in-Read.is), refl)
+    (zone_done _ _ _ _ _ c.is_minus.ensures (sym c.is_sign.ensures ∙ not_false _ c.if-not-is_sign.false-raw) (sym c.two_pairs.ensures ∙ ap two_row c.in-Read.is), refl)
