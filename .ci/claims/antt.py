@@ -10,7 +10,7 @@ USE = re.compile(r"(?:\w+ )*use (.*)")
 # what it says of a promise P that no two answers meet it, word for word: weaker words would leave an answer open
 ONE = {
     "OneAnswer": "(r r' : _) → P r → P r' → r ≡ r'",
-    "OneWriting": "(lent : List ℕ) (r r' : Written) (left left' : List ℕ) → P lent r left → P lent r' left' "
+    "OneWriting": "(lent : List ℕ) (r r' : Result ℕ Refusal) (left left' : List ℕ) → P lent r left → P lent r' left' "
                   "→ (r ≡ r') × (left ≡ left')",
     "OnePart": "(r r' : Bor (List ℕ)) → P r → P r' → (r.now ≡ r'.now) × (r.ref_ptr ≡ r'.ref_ptr)",
     "OneWritingForC": "(lent : List ℕ) (r r' count count' : ℕ) (left left' : List ℕ) → P lent r count left "

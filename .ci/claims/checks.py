@@ -15,7 +15,7 @@ PROMISES = "crates/format/specs/Promises.antt"
 FOR_USERS = ("calendar", "values", "stamp", "instants", "schedule", "boundary")
 # whose calls C has: exported by NAME_c where there is such a crate, as no crate can depend on one that exports; else by the crate itself
 FOR_C = ("boundary", "measured")
-BETWEEN_US = re.compile(r"\b(?:Value|Parsed|Located)\b")
+BETWEEN_US = re.compile(r"\b(?:Value|Located)\b")
 
 
 def look_at(root):
@@ -88,11 +88,11 @@ def claims_named(repository):
 
 
 def is_defined(repository, name):
-    """Whether the specs of a crate other than `claims` define a name, or its code a type."""
+    """Whether the specs of a crate other than `claims` define a name, or its code a type or a trait."""
     specs = [file for file in repository.names("crates/*/specs/*.antt") if not file.startswith("crates/claims/")]
     code = repository.names("crates/*/src/**/*.rt")
     return (any(name in antt.definitions(repository.text(file)) for file in specs)
-            or any(word + name + " {" in repository.text(file) for file in code for word in ("struct ", "enum ")))
+            or any(re.search(r"(?:struct|enum|trait) %s\b" % name, repository.text(file)) for file in code))
 
 
 # ---- 3. public calls promise
@@ -110,16 +110,18 @@ def calls_promise(repository):
         promised[call] = (crate, promise)
     for crate in FOR_USERS:
         yield unless(crate not in documents.crates_listed(text, "Not for users"), "%s: `%s` is for users" % (CLAIMS, crate))
-    for crate in user_crates(repository, text):
+    crates = user_crates(repository, text)
+    for crate in crates:
         yield crate.faults
         for path, function in crate.functions.items():
             name, _, rest = path.partition("::")
             (exports if name in exporting else functions)[exporting.get(name, name) + "::" + rest] = function
+    functions, ghosts = instances(functions, crates)
     for call in promised:
         yield unless(call in functions, "%s: there is no public call %s" % (CLAIMS, call))
     for call, function in functions.items():
         if call in promised:
-            yield [call + ": " + fault for fault in call_faults(repository, call, function, *promised[call])]
+            yield [call + ": " + fault for fault in call_faults(repository, call, function, *promised[call], ghosts.get(call))]
         else:
             yield ["%s: not in the table 'Public calls' of %s" % (call, CLAIMS)]
     for call in sorted({call for call in promised if call.split("::")[0] in FOR_C} | set(exports)):
@@ -135,8 +137,26 @@ def user_crates(repository, text):
     return [rattle.Crate(name, repository) for name in names if repository.text("crates/%s/src/lib.rt" % name)]
 
 
-def call_faults(repository, call, function, crate, promise):
+def instances(functions, crates):
+    """({call: function}, {call: ghost members}): one that is written once for all types of a trait is a call at each, as `read::<Date>`."""
+    kinds = {}
+    for item in [item for crate in crates for item in crate.items if item.kind == "impl" and item.trait]:
+        kinds.setdefault(item.trait, []).append((item.type, item.ghosts()))
+    called, ghosts = {}, {}
+    for call, function in functions.items():
+        trait = function.parameter()[1]
+        for name, given in kinds.get(trait, []):
+            called["%s::<%s>" % (call, name)] = function
+            ghosts["%s::<%s>" % (call, name)] = given
+        if not trait:
+            called[call] = function
+    return called, ghosts
+
+
+def call_faults(repository, call, function, crate, promise, ghosts=None):
     """What is wrong with the contract of a public call."""
+    if function.promise is not None:
+        return converted_faults(repository, function, crate, promise)
     parameters, answer, clauses = rattle.contract(function.text)
     words = [word for word, _ in clauses]
     if words != ["ensures"]:
@@ -145,14 +165,42 @@ def call_faults(repository, call, function, crate, promise):
     if not said:
         return ["its `ensures` is not a promise about parameters and answer alone"]
     cited, given = said
-    if cited != promise:
-        return ["its `ensures` cites %s, and %s names %s" % (cited, CLAIMS, promise)]
+    if ghosts is not None:
+        faults = instance_faults(repository, crate, promise, cited, given, function.parameter()[0], ghosts)
+        given = [word for word in given if not word.startswith(function.parameter()[0] + ".")]
+    else:
+        faults = unless(cited == promise, "its `ensures` cites %s, and %s names %s" % (cited, CLAIMS, promise))
+    if faults:
+        return faults
     brought, user = rattle.brought(repository.text(function.file)), call.split("::")[0]
-    defined = defined_as(repository, crate, promise)
-    return (unless(antt.meanings(promise, brought) == [defined], "%s is not imported from the specs of `%s`" % (promise, crate))
+    defined = defined_as(repository, crate, cited)
+    return (unless(antt.meanings(cited, brought) == [defined], "%s is not imported from the specs of `%s`" % (cited, crate))
             + ["in its file `%s` is another thing" % word for word in rattle.WORDS if antt.meanings(word, brought)]
-            + unless(user != "stamp" or not BETWEEN_US.search(function.text.split("{")[0]), "it takes or gives a `Value` or a `Parsed`")
-            + subject_faults(parameters, answer, promise, given))
+            + unless(user != "stamp" or not BETWEEN_US.search(function.text.split("{")[0]), "it takes or gives a `Value` or a `Located`")
+            + subject_faults(parameters, answer, cited, given))
+
+
+def converted_faults(repository, function, crate, promise):
+    """What is wrong with a function that a trait of std asks for: its promise is the one ghost member that the `impl` gives."""
+    _, _, clauses = rattle.contract(function.text)
+    meant = [whole for name in function.promise for whole in antt.meanings(name, rattle.brought(repository.text(function.file)))]
+    return (["it has a `%s`" % word for word, _ in clauses]
+            + unless(len(function.promise) == 1 and meant == [defined_as(repository, crate, promise)],
+                     "what its `impl` gives is not %s of the specs of `%s`" % (promise, crate)))
+
+
+def instance_faults(repository, crate, promise, cited, given, parameter, ghosts):
+    """A promise at a type is the one that is cited, at the ghost members that the type gives: `P a r = CITED MEMBER a r`."""
+    for module in antt.modules(repository.text("crates/%s/specs/Lib.antt" % crate)):
+        for line in antt.declarations(repository.text("crates/%s/specs/%s.antt" % (crate, module))):
+            head, defined, words = line.partition(" = ")
+            name, *arguments = head.split()
+            if defined and name == promise:
+                own = iter(arguments)
+                wanted = [ghosts.get(word.partition(".")[2], "") if word.startswith(parameter + ".") else next(own, "") for word in given]
+                if [cited] + wanted == words.split() and next(own, None) is None:
+                    return []
+    return ["%s is not %s, which its `ensures` cites, at this type" % (promise, cited)]
 
 
 def subject_faults(parameters, answer, promise, given):

@@ -61,7 +61,7 @@ def public_calls(text):
     """The table 'Public calls': [(call, the promise's crate, promise)], and the cells that can't be read."""
     calls, unread = [], []
     for row in rows(section(text, "Public calls")):
-        paths = listed(row.get("Call", ""), r"`(\w+(?:::\w+)+)`")
+        paths = listed(row.get("Call", ""), r"`(\w+(?:::(?:\w+|<[\w:]+>))+)`")
         promises = listed(row.get("Promise", ""), r"`(%s)`(?: of `(\w+)`)?" % NAME)
         promises = promises * len(paths) if len(promises) == 1 else promises
         if not paths or len(paths) != len(promises):

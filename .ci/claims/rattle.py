@@ -14,9 +14,14 @@ import antt
 IGNORED = re.compile(
     r"""(?P<quoted>b?"(?:\\.|[^"\\])*"|(?<![\w'])b?'(?:\\.|[^'\\])')|//.*|/\*(?s:.*?)\*/|^ *#!?\[.*\]\n""", re.M)
 ITEM = re.compile(
-    r'(pub )?(?:pub\(\w+\) )?(extern "C" )?(fn|ghost use|use|mod|struct|enum|const|impl) (\w+(?:::\w+)*)')
+    r'(pub )?(?:pub\(\w+\) )?(extern "C" )?(fn|ghost use|use|mod|struct|enum|const|trait|impl)(?:<[^>]*>)? (\w+(?:::\w+)*)')
+# an `impl` of a type, or of a trait for it: (trait, of what, type)
+IMPL = re.compile(r"impl(?:<[^>]*>)? (?:(\w+)(?:<([\w:]+)>)? for )?(\w+)(?:<[^>]*>)? \{")
 # the forms of those items that lead to functions which stand elsewhere
-LEADS_ON = re.compile(r"(?:pub(?:\(\w+\))? )?(?:use \w+(?:::\w+)*(?:::\{ ?\w+(?:, \w+)*,? ?\})?;|mod \w+;|impl \w+ \{)")
+LEADS_ON = re.compile(r"(?:pub(?:\(\w+\))? )?(?:use \w+(?:::\w+)*(?:::\{ ?\w+(?:, \w+)*,? ?\})?;|mod \w+;|trait \w+(?:: \w+)? \{|%s)" % IMPL.pattern)
+# a type parameter that stands for a type of a trait, and a ghost member that an `impl` gives
+PARAMETER = re.compile(r"fn \w+<(\w+): (\w+)>\(")
+GHOST = re.compile(r"^    ghost (\w+) = \{ (\S+) \};$", re.M)
 USED = re.compile(r"use ([\w:]+?)(?:::\{(.*)\})?;")
 # with the star of a clause that holds an assertion, and the name that each of two clauses has
 CLAUSE = re.compile(r"\s*\b((?:requires|ensures|ghost)\b\*?)[^{};]*\{")
@@ -40,13 +45,17 @@ def pieces(text, margin):
 
 
 class Item:
-    """A function, type, module, import, constant or `impl`."""
+    """A function, type, module, import, constant, trait or `impl`."""
 
     def __init__(self, text, file):
         found = ITEM.match(text)
         self.text, self.file = text, file
         public, for_c, self.kind, self.name = found.groups() if found else (None, None, "", "")
         self.public, self.for_c = bool(public), bool(for_c)
+        # of an `impl`: the trait, of what it is, and the type; of the function of one, the promise that the trait makes for it
+        block = IMPL.match(text)
+        self.trait, self.of, self.type = block.groups() if block else (None, None, None)
+        self.promise = None
 
     def first_line(self):
         return self.text.split("\n")[0].rstrip()
@@ -60,18 +69,27 @@ class Item:
         """What it is called, by those who have its module."""
         return [path.split("::")[-1] for path in self.used()] if self.kind == "use" and self.is_understood() else [self.name]
 
+    def parameter(self):
+        """(T, TRAIT) of a function that is written once for all types of a trait: `fn f<T: TRAIT>(`."""
+        found = PARAMETER.search(self.first_line())
+        return found.groups() if found else (None, None)
+
+    def ghosts(self):
+        """The ghost members that an `impl` gives, {name: what it is}."""
+        return dict(GHOST.findall(self.text))
+
     def methods(self):
-        """The functions of an `impl`."""
+        """The functions of an `impl` or a trait."""
         inside = [Item(piece, self.file) for piece in pieces(self.text, "    ")[1:]]
         return [item for item in inside if item.kind == "fn"]
 
     def is_understood(self):
         """Whether all functions that stand in it, or to which it leads, are looked at."""
-        leads_on = self.kind in ("mod", "impl") or (self.kind == "use" and self.public)
+        leads_on = self.kind in ("mod", "trait", "impl") or (self.kind == "use" and self.public)
         words = " ".join(self.text.split()) if self.kind == "use" else self.first_line()
         if not self.kind or (leads_on and not LEADS_ON.fullmatch(words)):
             return False
-        seen = len(self.methods()) if self.kind == "impl" else int(self.kind == "fn")
+        seen = len(self.methods()) if self.kind in ("trait", "impl") else int(self.kind == "fn")
         return seen == len(re.findall(r"\bfn\b", self.text))
 
 
@@ -126,12 +144,24 @@ class Crate:
             self.open(item, target, path, name)
 
     def add_methods(self):
-        """The `pub` functions of each `pub` type: also of one without a path, since an answer may be of it."""
+        """The `pub` functions of each `pub` type: also of one without a path, since an answer may be of it; and what a trait of std gives to one."""
         types = [item.name for item in self.items if item.public and item.kind in ("struct", "enum")]
+        traits = [item.name for item in self.items if item.kind == "trait"]
         for block in self.items:
-            if block.kind == "impl" and block.name in types:
-                path = self.types.get(block.name, self.name + "::" + block.name)
+            if block.kind == "impl" and not block.trait and block.type in types:
+                path = self.types.get(block.type, self.name + "::" + block.type)
                 self.functions.update({path + "::" + item.name: item for item in block.methods() if item.public})
+            elif block.kind == "impl" and block.trait and block.trait not in traits:
+                self.add_converted(block, types)
+
+    def add_converted(self, block, types):
+        """A function that a trait of std asks for: `TYPE::from::<A>`, or `A::into::<TYPE>` where the type is not ours, as in `impl From<A> for u32`."""
+        own = block.type in types
+        name, other = (block.type, block.of) if own else (block.of, block.type)
+        for item in block.methods():
+            item.promise = list(block.ghosts().values())
+            path = self.types.get(name, self.name + "::" + (name or ""))
+            self.functions[path + "::" + (item.name if own else "into") + ("::<%s>" % other if other else "")] = item
 
 
 # ---- contracts

@@ -12,7 +12,8 @@ use Rattle.format.specs.Writing.{encode}
 use Rattle.format.specs.Keeping.{owned}
 use Rattle.values.specs.Promise.{Left}
 use Rattle.format.proofs.Kept.{encode_owned}
-use Rattle.boundary.specs.Boundary.{kind_numbered, writing_as, writing, reading_as, reading_of, parts_after, ReadsNumbered}
+use Rattle.values.specs.Meaning.{kind_numbered}
+use Rattle.boundary.specs.Boundary.{writing_as, writing, reading_as, reading_of, parts_after, ReadsNumbered}
 
 pub writing_at : (n : ℕ) (t : Settings) (v : Value) (o : Outcome Kind) → o ≡ kind_numbered n → writing n t v ≡ writing_as o t v
 unfolding writing

@@ -21,7 +21,7 @@ use Rattle.values.specs.declared.answers.Decoded.{Decoded}
 use Rattle.values.specs.declared.answers.Decoded.TheVariants as D
 use Rattle.values.specs.contracts.answers.Decoded.{the_type}
 use Rattle.values.specs.Answers.{decoded}
-use Rattle.boundary.specs.Boundary.{kind_number}
+use Rattle.values.specs.Meaning.{kind_number}
 use Rattle.format.proofs.Cases.{both_true}
 use Rattle.format.proofs.Round.{was_read}
 use Rattle.format.proofs.Kept.{read_owned}

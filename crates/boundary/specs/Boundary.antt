@@ -1,13 +1,11 @@
 -- The C boundary: kinds, forms and answers as numbers, and what its two calls promise. (The numbers are the header's.)
 --
---   kind_numbered n      the kind with the number n: 0 Date, 1 DateTz, 2 Time, 3 TimeTz, 4 Datetime, 5 DatetimeTz; no such kind is refusal 2
---   known r              what `kind_of` and `kind_in` answer: a kind, or refusal 2
---   value_of d m z       the value of a date, a time and an offset, whatever the kind
+-- Kinds by their numbers are in `values/specs/Meaning.antt`: `kind_numbered n`, where no such kind is refusal 2, and `kind_number k`.
+--
 --   writing_as o t v     what writing comes to at a kind that was looked up: no such kind is refused after 1, digits above 6
 --   writing n t v        what writing comes to at the kind with the number n
 --   reading_as o s       what reading comes to at a kind that was looked up: no such kind is refused before the octets are looked at
 --   reading_of n s       what reading comes to at the number n: also 6 Date or DateTz, 7 Time or TimeTz, 8 Datetime or DatetimeTz
---   kind_number k        the number of a kind, 0 to 5
 --   form_number f        the number of a form: 0 text, 1 compact, 2 extended
 --   form_digits f        a text's digits, 0 of the others
 --   numbers_of k f d v   the eight numbers: kind, form's number, digits, year, month, day, microseconds, offset
@@ -23,33 +21,10 @@ use Rattle.format.specs.Promises.{number_of}
 use Rattle.format.specs.Writing.{encode}
 use Rattle.format.specs.Reading.{read}
 use Rattle.format.specs.EitherOr.{DateOrTz, TimeOrTz, DatetimeOrTz, read_either}
-use Rattle.calendar.specs.declared.Date.{Date as GivenDate}
-use Rattle.calendar.specs.Meaning.{day_from}
-use Rattle.values.specs.declared.parts.Time.{Time as GivenTime}
-use Rattle.values.specs.declared.parts.Offset.{Offset}
-use Rattle.values.specs.Meaning.{kind_from}
+use Rattle.values.specs.Meaning.{kind_numbered, kind_number}
 use Rattle.values.specs.Promise.{Left}
-use Rattle.boundary.specs.declared.Known.{Known}
-use Rattle.boundary.specs.declared.Known.TheVariants as K
-
-unfoldable pub kind_numbered : ℕ → Outcome Kind
-kind_numbered n =
-    pick (eqb n 0) (accepted Date)
-    (pick (eqb n 1) (accepted DateTz)
-    (pick (eqb n 2) (accepted Time)
-    (pick (eqb n 3) (accepted TimeTz)
-    (pick (eqb n 4) (accepted Datetime)
-    (pick (eqb n 5) (accepted DatetimeTz)
-    (refused 2))))))
-
-abbrev pub known : Known → Outcome Kind
-known (K.Kind k) = accepted (kind_from k)
-known K.None = refused 2
 
 -- ---- writing
-
-abbrev pub value_of : GivenDate → GivenTime → Offset → Value
-value_of date time offset = record { date = day_from date; micros = time.micros; offset = offset.minutes }
 
 abbrev pub writing_as : Outcome Kind → Settings → Value → Outcome (List ℕ)
 writing_as (accepted k) t v = encode k t v
@@ -73,14 +48,6 @@ reading_of n s =
     (pick (eqb n 7) (read_either TimeOrTz s)
     (pick (eqb n 8) (read_either DatetimeOrTz s)
     (reading_as (kind_numbered n) s)))
-
-abbrev pub kind_number : Kind → ℕ
-kind_number Date = 0
-kind_number DateTz = 1
-kind_number Time = 2
-kind_number TimeTz = 3
-kind_number Datetime = 4
-kind_number DatetimeTz = 5
 
 abbrev pub form_number : Form → ℕ
 form_number (text d) = 0

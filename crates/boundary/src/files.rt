@@ -1,24 +1,24 @@
 // The calls on schedule files, for C.
 ghost use Rattle.std.specs.Prelude.{◌<◌, ◌^◌, ◌≡◌};
-ghost use Rattle.schedule.specs.Meaning.{record_from, found, asked};
-ghost use Rattle.boundary.specs.Files.{record_numbers, held_numbers, in_words, asked_in_words, HandsRecord, HandsAsked, ReadForC, RecordForC, HoldsForC, OverForC};
+ghost use Rattle.schedule.specs.Meaning.{record_from, held_from, found};
+ghost use Rattle.boundary.specs.Files.{record_numbers, held_numbers, held_or_zeros, in_words, held_in_words, HandsRecord, ReadForC, RecordForC, HoldsForC, OverForC};
 
 use instants::Instant;
-use schedule::{Asked, Found, FullReading, Held, Record, Source};
+use schedule::{Fault, Record, Refusal, Source};
 
 pub fn stamp_schedule_read(file: &[u8], records: &mut u32, fault: &mut u32) -> u32
     ensures { ReadForC file.now result records.new fault.new }
 {
     match schedule::read(file) {
-        FullReading::Records(number) => {
+        Ok(number) => {
             *records = number;
             *fault = 0;
             0
         }
-        FullReading::Refused(refusal, place) => {
+        Err(Fault { refusal, place }) => {
             *records = 0;
             *fault = place;
-            refusal.number()
+            refusal.into()
         }
     }
 }
@@ -28,23 +28,28 @@ fn put_record(shown: Record, parts: &mut [i64; 5])
     requires { (shown.start < 2 ^ 63) × (shown.length < 2 ^ 63) }
     ensures { parts.new ≡ record_numbers (record_from shown) }
 {
-    let instant = shown.instant;
     let channel = shown.channel as i64;
     let start = shown.start as i64;
     let length = shown.length as i64;
-    *parts = [channel, shown.correction, instant.micros, start, length];
+    *parts = [
+        channel,
+        shown.correction,
+        shown.instant.micros,
+        start,
+        length,
+    ];
 }
 
-fn hand_record(answer: Found, parts: &mut [i64; 5]) -> u32
+fn hand_record(answer: Result<Record, Refusal>, parts: &mut [i64; 5]) -> u32
     requires { in_words (found answer) }
     ensures { HandsRecord (found answer) parts.old result parts.new }
 {
     match answer {
-        Found::Record(record) => {
+        Ok(record) => {
             put_record(record, parts);
             0
         }
-        Found::Refused(refusal) => refusal.number(),
+        Err(refusal) => refusal.into(),
     }
 }
 
@@ -58,28 +63,19 @@ fn put_held(shown: Record, parts: &mut [i64; 5])
     requires { (shown.start < 2 ^ 63) × (shown.length < 2 ^ 63) }
     ensures { parts.new ≡ held_numbers (record_from shown) }
 {
-    let instant = shown.instant;
     let place = shown.place as i64;
     let start = shown.start as i64;
     let length = shown.length as i64;
-    *parts = [place, start, length, instant.micros, shown.correction];
+    *parts = [place, start, length, shown.instant.micros, shown.correction];
 }
 
-fn hand_asked(answer: Asked, parts: &mut [i64; 5]) -> u32
-    requires { asked_in_words (asked answer) }
-    ensures { HandsAsked (asked answer) parts.old result parts.new }
+fn hand_held(latest: Option<Record>, parts: &mut [i64; 5])
+    requires { held_in_words (held_from latest) }
+    ensures { parts.new ≡ held_or_zeros (held_from latest) }
 {
-    let held = answer.held;
-    match held {
-        Held::NoneYet => {
-            *parts = [0, 0, 0, 0, 0];
-            0
-        }
-        Held::Record(shown) => {
-            put_held(shown, parts);
-            0
-        }
-        Held::Refused(refusal) => refusal.number(),
+    match latest {
+        Some(shown) => put_held(shown, parts),
+        None => *parts = [0, 0, 0, 0, 0],
     }
 }
 
@@ -92,9 +88,17 @@ pub fn stamp_schedule_holds(
 ) -> u32
     ensures { HoldsForC file.now instant channel parts.old result read.new parts.new }
 {
-    let answer = schedule::holds(file, Instant::new(instant), channel);
-    *read = answer.read;
-    hand_asked(answer, parts)
+    match schedule::holds(file, Instant::new(instant), channel) {
+        Ok(held) => {
+            *read = held.read;
+            hand_held(held.latest, parts);
+            0
+        }
+        Err(refusal) => {
+            *read = 0;
+            refusal.into()
+        }
+    }
 }
 
 pub fn stamp_schedule_over(
@@ -108,8 +112,7 @@ pub fn stamp_schedule_over(
 {
     let found = schedule::part_over(plan, manual, Instant::new(instant), channel);
     *part = [found.start, found.length];
-    let source = found.source;
-    match source {
+    match found.source {
         Source::Plan => 0,
         Source::Manual => 1,
     }

@@ -3,9 +3,9 @@
 
 ghost use Rattle.std.specs.Prelude.{◌≡◌};
 ghost use Rattle.format.specs.Writing.{encode};
-ghost use Rattle.values.specs.Meaning.{kind_from, settings_from};
+ghost use Rattle.values.specs.Meaning.{kind_from, kind_found, settings_from, value_from};
 ghost use Rattle.values.specs.Promise.{Writes};
-ghost use Rattle.boundary.specs.Boundary.{kind_numbered, known, value_of, writing, WritesNumbered, reading_as, reading_of, ReadsNumbered};
+ghost use Rattle.boundary.specs.Boundary.{writing, WritesNumbered, reading_as, reading_of, ReadsNumbered};
 
 mod files;
 mod handing;
@@ -17,73 +17,54 @@ pub use files::{
 };
 pub use utc::{stamp_add, stamp_at, stamp_difference, stamp_instant, stamp_restate};
 use values::{
-    DateTz, Datetime, DatetimeTz, Kind, Offset, Refusal, Settings, Time, TimeTz, Written,
+    DateTz, Datetime, DatetimeTz, Kind, NoSuchKind, Offset, Refusal, Settings, Stamp, Time, TimeTz,
+    Value,
 };
-
-// The kind that a number names.
-#[derive(Clone, Copy)]
-enum Known {
-    Kind(Kind),
-    None,
-}
-
-fn kind_of(number: u32) -> Known
-    ensures { known result ≡ kind_numbered number }
-{
-    match number {
-        0 => Known::Kind(Kind::Date),
-        1 => Known::Kind(Kind::DateTz),
-        2 => Known::Kind(Kind::Time),
-        3 => Known::Kind(Kind::TimeTz),
-        4 => Known::Kind(Kind::Datetime),
-        5 => Known::Kind(Kind::DatetimeTz),
-        _ => Known::None, // a writer refuses it with 2
-    }
-}
 
 // ---- writing
 
-// The kind's own value, by the parts that the kind has. Each writer is called here and nowhere else, so that it is compiled into this place.
+// The kind's own value, by the parts that the kind has.
+fn write_as<T: Stamp>(value: Value, settings: Settings, octets: &mut [u8]) -> Result<usize, Refusal>
+    ensures { Writes (encode T.kind (settings_from settings) (value_from value)) octets.old result octets.new }
+{
+    stamp::write(T::of(value), settings, octets)
+}
+
+// Each writer is called here and nowhere else, so that it is compiled into this place.
 fn write_known(
     kind: Kind,
-    date: Date,
-    time: Time,
-    offset: Offset,
+    value: Value,
     settings: Settings,
     octets: &mut [u8],
-) -> Written
-    ensures { Writes (encode (kind_from kind) (settings_from settings) (value_of date time offset)) octets.old result octets.new }
+) -> Result<usize, Refusal>
+    ensures { Writes (encode (kind_from kind) (settings_from settings) (value_from value)) octets.old result octets.new }
 {
     match kind {
-        Kind::Date => stamp::write_date(date, settings, octets),
-        Kind::DateTz => stamp::write_date_tz(DateTz { date, offset }, settings, octets),
-        Kind::Time => stamp::write_time(time, settings, octets),
-        Kind::TimeTz => stamp::write_time_tz(TimeTz { time, offset }, settings, octets),
-        Kind::Datetime => stamp::write_datetime(Datetime { date, time }, settings, octets),
-        Kind::DatetimeTz => {
-            stamp::write_datetime_tz(DatetimeTz { date, time, offset }, settings, octets)
-        }
+        Kind::Date => write_as::<Date>(value, settings, octets),
+        Kind::DateTz => write_as::<DateTz>(value, settings, octets),
+        Kind::Time => write_as::<Time>(value, settings, octets),
+        Kind::TimeTz => write_as::<TimeTz>(value, settings, octets),
+        Kind::Datetime => write_as::<Datetime>(value, settings, octets),
+        Kind::DatetimeTz => write_as::<DatetimeTz>(value, settings, octets),
     }
 }
 
 // No such kind comes after the digits, which every writer tests first.
 fn write_numbered(
     number: u32,
-    date: Date,
-    time: Time,
-    offset: Offset,
+    value: Value,
     settings: Settings,
     octets: &mut [u8],
-) -> Written
-    ensures { Writes (writing number (settings_from settings) (value_of date time offset)) octets.old result octets.new }
+) -> Result<usize, Refusal>
+    ensures { Writes (writing number (settings_from settings) (value_from value)) octets.old result octets.new }
 {
-    let Known::Kind(kind) = kind_of(number) else {
+    let Ok(kind) = Kind::try_from(number) else {
         if !settings.in_range() {
-            return Written::Refused(Refusal::Digits);
+            return Err(Refusal::Digits);
         }
-        return Written::Refused(Refusal::Value);
+        return Err(Refusal::Value);
     };
-    write_known(kind, date, time, offset, settings, octets)
+    write_known(kind, value, settings, octets)
 }
 
 // Parts that the kind lacks are not looked at.
@@ -103,17 +84,19 @@ pub fn stamp_write(
     ensures { WritesNumbered kind (record { binary = binary; version = version; digits = digits }) (record { date = record { year = year; month = month; day = day }; micros = micros; offset = offset }) octets.old result count.new octets.new }
 {
     let settings = Settings::new(binary, version, digits);
-    let date = Date::new(year, month, day);
-    let time = Time::new(micros);
-    let offset = Offset::new(offset);
-    match write_numbered(kind, date, time, offset, settings, octets) {
-        Written::Octets(length) => {
+    let value = Value {
+        date: Date::new(year, month, day),
+        time: Time::new(micros),
+        offset: Offset::new(offset),
+    };
+    match write_numbered(kind, value, settings, octets) {
+        Ok(length) => {
             *count = length;
             0
         }
-        Written::Refused(refusal) => {
+        Err(refusal) => {
             *count = 0;
-            refusal.number()
+            refusal.into()
         }
     }
 }
@@ -122,25 +105,25 @@ pub fn stamp_write(
 
 // 6, 7 and 8 name an either-or reader, which finds the kind in the octets; no other number looks at them. Most callers name one of the six kinds, so
 // that is asked first.
-fn kind_in(number: u32, octets: &[u8]) -> Known
-    ensures { reading_as (known result) octets.now ≡ reading_of number octets.now }
+fn kind_in(number: u32, octets: &[u8]) -> Result<Kind, NoSuchKind>
+    ensures { reading_as (kind_found result) octets.now ≡ reading_of number octets.now }
 {
     if number < 6 {
-        return kind_of(number);
+        return Kind::try_from(number);
     }
     match number {
-        6 => Known::Kind(stamp::date_kind(octets)),
-        7 => Known::Kind(stamp::time_kind(octets)),
-        8 => Known::Kind(stamp::datetime_kind(octets)),
-        _ => Known::None,
+        6 => Ok(stamp::date_kind(octets)),
+        7 => Ok(stamp::time_kind(octets)),
+        8 => Ok(stamp::datetime_kind(octets)),
+        _ => Err(NoSuchKind),
     }
 }
 
 pub fn stamp_read(kind: u32, octets: &[u8], parts: &mut [i64; 8]) -> u32
     ensures { ReadsNumbered kind octets.now parts.old result parts.new }
 {
-    let Known::Kind(found) = kind_in(kind, octets) else {
-        return Refusal::Value.number();
+    let Ok(found) = kind_in(kind, octets) else {
+        return Refusal::Value.into();
     };
     handing::hand_known(found, octets, parts)
 }

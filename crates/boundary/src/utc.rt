@@ -6,7 +6,7 @@ ghost use Rattle.instants.specs.Meaning.{found, stated};
 ghost use Rattle.boundary.specs.Utc.{stamp_numbers, in_day, HandsNumber, HandsStamp, InstantForC, AddForC, DifferenceForC, AtForC, RestateForC};
 
 use calendar::Date;
-use instants::{Apart, Found, Instant, Stated};
+use instants::{Instant, Refusal};
 use values::{DatetimeTz, Offset, Time};
 
 fn stamp_by_parts(year: u32, month: u32, day: u32, micros: u64, offset: i32) -> DatetimeTz
@@ -20,16 +20,15 @@ fn stamp_by_parts(year: u32, month: u32, day: u32, micros: u64, offset: i32) -> 
 
 // ---- what is handed over; after a refusal nothing is
 
-fn hand_instant(answer: Found, to: &mut i64) -> u32
+fn hand_instant(answer: Result<Instant, Refusal>, to: &mut i64) -> u32
     ensures { HandsNumber (found answer) to.old result to.new }
 {
     match answer {
-        Found::Instant(instant) => {
-            let micros = instant.micros;
-            *to = micros;
+        Ok(instant) => {
+            *to = instant.micros;
             0
         }
-        Found::Refused(refusal) => refusal.number(),
+        Err(refusal) => refusal.into(),
     }
 }
 
@@ -38,27 +37,24 @@ fn put_stamp(stamp: DatetimeTz, parts: &mut [i64; 5])
     requires { stamp.time.micros ≤ end_of_day }
     ensures { parts.new ≡ stamp_numbers (datetime_tz_value stamp) }
 {
-    let date = stamp.date;
-    let time = stamp.time;
-    let offset = stamp.offset;
-    let year = date.year as i64;
-    let month = date.month as i64;
-    let day = date.day as i64;
-    let micros = time.micros as i64;
-    let minutes = offset.minutes as i64;
+    let year = stamp.date.year as i64;
+    let month = stamp.date.month as i64;
+    let day = stamp.date.day as i64;
+    let micros = stamp.time.micros as i64;
+    let minutes = stamp.offset.minutes as i64;
     *parts = [year, month, day, micros, minutes];
 }
 
-fn hand_stamp(answer: Stated, parts: &mut [i64; 5]) -> u32
+fn hand_stamp(answer: Result<DatetimeTz, Refusal>, parts: &mut [i64; 5]) -> u32
     requires { in_day (stated answer) }
     ensures { HandsStamp (stated answer) parts.old result parts.new }
 {
     match answer {
-        Stated::Stamp(stamp) => {
+        Ok(stamp) => {
             put_stamp(stamp, parts);
             0
         }
-        Stated::Refused(refusal) => refusal.number(),
+        Err(refusal) => refusal.into(),
     }
 }
 
@@ -75,7 +71,7 @@ pub fn stamp_instant(
     ensures { InstantForC (record { date = record { year = year; month = month; day = day }; micros = micros; offset = offset }) instant.old result instant.new }
 {
     let stamp = stamp_by_parts(year, month, day, micros, offset);
-    hand_instant(instants::instant_of(stamp), instant)
+    hand_instant(Instant::try_from(stamp), instant)
 }
 
 pub fn stamp_add(instant: i64, micros: i64, sum: &mut i64) -> u32
@@ -91,11 +87,11 @@ pub fn stamp_difference(a: i64, b: i64, difference: &mut i64) -> u32
     let one = Instant::new(a);
     let other = Instant::new(b);
     match one.difference(other) {
-        Apart::Micros(micros) => {
+        Ok(micros) => {
             *difference = micros;
             0
         }
-        Apart::Refused(refusal) => refusal.number(),
+        Err(refusal) => refusal.into(),
     }
 }
 

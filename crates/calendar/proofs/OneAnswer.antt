@@ -8,28 +8,25 @@ use Rattle.format.proofs.Promises.{equal_one, meaning_one}
 use Rattle.calendar.specs.Meaning.{number_answered, day_answered}
 use Rattle.calendar.specs.Calls.{DateNew, DateInRange, DayNumber, DateOf, YearStart}
 use Rattle.calendar.specs.declared.Date.{Date}
-use Rattle.calendar.specs.declared.Numbered.{Numbered}
-use Rattle.calendar.specs.declared.Numbered.TheVariants as N
-use Rattle.calendar.specs.declared.Dated.{Dated}
-use Rattle.calendar.specs.declared.Dated.TheVariants as D
+use Rattle.std.specs.Prelude.{Option, Some, None}
 
-numbered_of : Outcome ℕ → Numbered
-numbered_of (accepted n) = N.Day n
-numbered_of (refused n) = N.NoSuchDay
+numbered_of : Outcome ℕ → Option ℕ
+numbered_of (accepted n) = Some n
+numbered_of (refused n) = None
 
-number_back : (r : Numbered) → numbered_of (number_answered r) ≡ r
+number_back : (r : Option ℕ) → numbered_of (number_answered r) ≡ r
 unfolding numbered_of
-number_back (N.Day n) = refl
-number_back N.NoSuchDay = refl
+number_back (Some n) = refl
+number_back None = refl
 
-dated_of : Outcome Day → Dated
-dated_of (accepted d) = D.Date (record { year = d.year; month = d.month; day = d.day })
-dated_of (refused n) = D.NoSuchNumber
+dated_of : Outcome Day → Option Date
+dated_of (accepted d) = Some (record { year = d.year; month = d.month; day = d.day })
+dated_of (refused n) = None
 
-day_back : (r : Dated) → dated_of (day_answered r) ≡ r
+day_back : (r : Option Date) → dated_of (day_answered r) ≡ r
 unfolding dated_of
-day_back (D.Date d) = refl
-day_back D.NoSuchNumber = refl
+day_back (Some d) = refl
+day_back None = refl
 
 pub one_new : (year month day : ℕ) → OneAnswer (DateNew year month day)
 one_new year month day = equal_one _

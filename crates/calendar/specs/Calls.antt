@@ -6,11 +6,9 @@
 --   DayNumber d r       `day_number`: the date's day number, or refusal 2
 --   DateOf n r          `date_of`: the date of the day number, or refusal 2
 --   YearStart y r       `year_start`: the days before the years that y has beyond whole cycles of 400, counted from the start of their cycle
-use Rattle.std.specs.Prelude.{ℕ, ◌%◌, ◌≡◌, Bool}
+use Rattle.std.specs.Prelude.{ℕ, ◌%◌, ◌≡◌, Bool, Option}
 use Rattle.format.specs.Calendar.{year_start, is_day, number_asked, day_asked}
 use Rattle.calendar.specs.declared.Date.{Date}
-use Rattle.calendar.specs.declared.Numbered.{Numbered}
-use Rattle.calendar.specs.declared.Dated.{Dated}
 use Rattle.calendar.specs.Meaning.{day_from, number_answered, day_answered}
 
 -- the date of three numbers
@@ -22,11 +20,11 @@ abbrev pub DateInRange : Date → Bool → Type 0
 DateInRange d r = r ≡ is_day (day_from d)
 
 -- a date's day number, where there is such a day
-abbrev pub DayNumber : Date → Numbered → Type 0
+abbrev pub DayNumber : Date → Option ℕ → Type 0
 DayNumber d r = number_answered r ≡ number_asked (day_from d)
 
 -- the date of a day number, where there is one
-abbrev pub DateOf : ℕ → Dated → Type 0
+abbrev pub DateOf : ℕ → Option Date → Type 0
 DateOf n r = day_answered r ≡ day_asked n
 
 -- the days before the years of the last cycle

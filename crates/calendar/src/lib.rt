@@ -21,20 +21,6 @@ pub struct Date {
     pub day: u32,
 }
 
-// A date's day number: 0 at 0001-01-01.
-#[derive(Clone, Copy)]
-pub enum Numbered {
-    Day(u32),
-    NoSuchDay,
-}
-
-// The date of a day number.
-#[derive(Clone, Copy)]
-pub enum Dated {
-    Date(Date),
-    NoSuchNumber,
-}
-
 // The leap years repeat after so many.
 const CYCLE_YEARS: u32 = 400;
 
@@ -107,14 +93,14 @@ fn number_of(date: Date) -> u32
         - (years::TO_JANUARY + 1)
 }
 
-// One test of the whole date; what then follows asks for no range.
-pub fn day_number(date: Date) -> Numbered
+// A date's day number, 0 at 0001-01-01, where there is such a day. One test of the whole date; what then follows asks for no range.
+pub fn day_number(date: Date) -> Option<u32>
     ensures { DayNumber date result }
 {
     if date.in_range() {
-        return Numbered::Day(number_of(date));
+        return Some(number_of(date));
     }
-    Numbered::NoSuchDay
+    None
 }
 
 // The date of the day that comes after that many years and days. Month and day lie on one line, of which a day is 2,141 and a month 65,536: March is 3,
@@ -142,12 +128,12 @@ fn date_after(past: Elapsed) -> Date
     }
 }
 
-// The year and its day first, then the month and its day.
-pub fn date_of(number: u32) -> Dated
+// The date of a day number, where there is one. The year and its day first, then the month and its day.
+pub fn date_of(number: u32) -> Option<Date>
     ensures { DateOf number result }
 {
     if Date::LAST_NUMBER < number {
-        return Dated::NoSuchNumber;
+        return None;
     }
-    Dated::Date(date_after(years::elapsed_at(number + years::TO_JANUARY)))
+    Some(date_after(years::elapsed_at(number + years::TO_JANUARY)))
 }

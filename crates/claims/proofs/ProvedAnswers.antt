@@ -21,8 +21,13 @@ parts_answers = (
   values.one_dated,
   values.one_timed,
   values.one_zoned,
+  values.one_kind_of_number,
+  values.one_kind_number,
   values.one_rest_in_range,
   values.one_value_in_range,
+  values.one_decoded_kind,
+  values.one_decoded_form,
+  values.one_decoded_value,
   values.one_refusal_number,
 )
 
@@ -74,7 +79,7 @@ instants_answers = (
 )
 
 pub schedule_answers : ScheduleAnswers
-schedule_answers = (schedule.one_number, schedule.one_read, schedule.one_record_at, schedule.one_holds)
+schedule_answers = (schedule.one_number, schedule.one_of_stamp, schedule.one_of_fault, schedule.one_read, schedule.one_record_at, schedule.one_holds)
 
 pub over_answers : OverAnswers
 over_answers = (schedule.one_part_over, schedule.one_over)

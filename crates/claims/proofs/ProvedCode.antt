@@ -22,10 +22,8 @@ use Rattle.format.proofs.Cases.{cases}
 use Rattle.format.proofs.Round.{written_reads, read_writes}
 use Rattle.values.specs.declared.refusal.Refusal.{Refusal}
 use Rattle.values.specs.declared.settings.Settings.{Settings}
-use Rattle.values.specs.declared.answers.Written.{Written}
-use Rattle.values.specs.declared.answers.Written.TheVariants as W
-use Rattle.values.specs.declared.answers.Reading.{Reading}
-use Rattle.values.specs.declared.answers.Reading.TheVariants as G
+use Rattle.std.specs.Prelude.{Result, Ok, Err}
+use Rattle.values.specs.declared.answers.Decoded.{Decoded}
 use Rattle.values.specs.Meaning.{refusal_number, settings_from}
 use Rattle.values.specs.Answers.{written_number, written_count}
 use Rattle.values.specs.Promise.{Writes, Reads}
@@ -41,14 +39,14 @@ zero_one n e = absurd (omega arith)
 pub refused_nothing_happens : RefusedNothingHappens
 refused_nothing_happens = (writer, reader)
   where
-    writer : (o : Outcome (List ℕ)) (lent left : List ℕ) (r : Written) → Writes o lent r left → (written_number r ≡ 0 → ⊥) → (written_count r ≡ 0) × (left ≡ lent)
+    writer : (o : Outcome (List ℕ)) (lent left : List ℕ) (r : Result ℕ Refusal) → Writes o lent r left → (written_number r ≡ 0 → ⊥) → (written_count r ≡ 0) × (left ≡ lent)
     writer (refused n) lent left r p z = (p.count, p.buffer)
     writer (accepted xs) lent left r p z =
         ⊎_elim (λ e. absurd (z (rw e at p.number))) (λ e. (rw e at p.count, rw e at p.buffer)) (cases (leb (length xs) (length lent)))
 
-    reader : (n : ℕ) (r : Reading) → Reads (refused n) r → (f : Refusal) × (r ≡ G.Refused f) × (refusal_number f ≡ n)
-    reader n (G.Stamp d) e = absurd (let z : ◌≡◌ {A = ℕ} 0 1 = cc in omega arith)
-    reader n (G.Refused f) e = (f, refl, cc)
+    reader : (n : ℕ) (r : Result Decoded Refusal) → Reads (refused n) r → (f : Refusal) × (r ≡ Err f) × (refusal_number f ≡ n)
+    reader n (Ok d) e = absurd (let z : ◌≡◌ {A = ℕ} 0 1 = cc in omega arith)
+    reader n (Err f) e = (f, refl, cc)
 
 pub answered_to_c : AnsweredToC
 answered_to_c = (
@@ -71,7 +69,7 @@ tests true true false xs room e = zero_one 2 e
 tests true true true xs room e =
     (refl, refl, refl, ⊎_elim (λ h. leb-true _ _ h) (λ h. zero_one 3 (rw h at e)) (cases (leb (length xs) room)))
 
-module _ (k : format.Kind) (t : format.Settings) (v : format.Value) (lent left : List ℕ) (r : Written) (p : Writes (encode k t v) lent r left) where
+module _ (k : format.Kind) (t : format.Settings) (v : format.Value) (lent left : List ℕ) (r : Result ℕ Refusal) (p : Writes (encode k t v) lent r left) where
   all_held : written_number r ≡ 0
       → (format.digits_in_range t.digits ≡ true) × (format.in_range k v ≡ true) × (has_form k (form_for k t v) v ≡ true) × (length (image_in k (form_for k t v) v) ≤ length lent)
   unfolding encode
@@ -104,9 +102,9 @@ reads_back : (k : format.Kind) (t : Settings) (v : format.Value) (reader : List 
 reads_back k t v reader o e lent left n r p q =
     let u = settings_from t in
     let xs = image_in k (form_for k u v) v in
-    let f = front k u v lent left (W.Octets n) p refl in
+    let f = front k u v lent left (Ok n) p refl in
     let s : take n left ≡ xs = rw f.1 (take_at xs (drop (length xs) lent) n (sym f.0)) in
-    (rw s at q) ∙ e xs (is-accepted k u v lent left (W.Octets n) p refl)
+    (rw s at q) ∙ e xs (is-accepted k u v lent left (Ok n) p refl)
 
 own_reads_back : (k : format.Kind) (t : Settings) (v : format.Value)
     → ReadsBack (λ lent r left. Writes (encode k (settings_from t) v) lent r left) (λ s r. Reads (read k s) r) (kept k t v)
@@ -135,7 +133,7 @@ writes_again : (k : format.Kind) (s : List ℕ) (t : Settings) (a : format.Answe
 writes_again k s t a o e h lent left r p l =
     let w : encode k (settings_from t) a.value ≡ accepted s = rw h (read_writes k s a o (sym e)) in
     let b = le-leb (length s) (length lent) l in
-    one_writing (accepted s) lent r (W.Octets (length s)) left (s ++ drop (length s) lent) (rw w at p) (record { number = rw b; count = rw b; buffer = rw b })
+    one_writing (accepted s) lent r (Ok (length s)) left (s ++ drop (length s) lent) (rw w at p) (record { number = rw b; count = rw b; buffer = rw b })
 
 pub own_writer_writes_again : OwnWriterWritesAgain
 own_writer_writes_again s t o =

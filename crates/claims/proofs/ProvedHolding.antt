@@ -22,7 +22,7 @@ use Rattle.card.proofs.Greatest.{not_above}
 use Rattle.card.proofs.Fixed as fixed
 use Rattle.card.proofs.BenchOfQuestions as bench
 use Rattle.instants.specs.declared.Instant.{Instant}
-use Rattle.schedule.specs.declared.Held.TheVariants as H
+use Rattle.std.specs.Prelude.{Some, None, Ok, Err}
 use Rattle.schedule.specs.declared.Record.{Record as GivenRecord}
 use Rattle.schedule.specs.declared.Refusal.{Refusal}
 use Rattle.schedule.specs.Meaning.{refusal_number, record_from}
@@ -259,33 +259,22 @@ looked_at = (
 pub own_question : OwnQuestion
 own_question = (own_none, own_record, own-refused)
   where
-    told : (s : List ℕ) (t : ℤ) (c k : ℕ) (h : Held) → question twelve s t c ≡ accepted (record { read = k; held = h }) → k ≡ records_read (question twelve s t c)
-    told s t c k h e = sym (ap records_read e)
-
-    own_none : (s : List ℕ) (i : Instant) (c k : ℕ) → AsksFile s i c (record { read = k; held = H.NoneYet }) ↔ (ReadUpTo s i.micros c k × NoneOf s k i.micros c)
-    own_none s i c k = (
-      λ p. answered_then s i.micros c k none_yet (sym p.answer),
-      λ p. let e = then_answered s i.micros c k none_yet p.0 p.1 in record { answer = sym e; count = told s i.micros c k none_yet e },
-    )
+    own_none : (s : List ℕ) (i : Instant) (c k : ℕ) → AsksFile s i c (Ok (record { read = k; latest = None })) ↔ (ReadUpTo s i.micros c k × NoneOf s k i.micros c)
+    own_none s i c k = (λ p. answered_then s i.micros c k none_yet (sym p), λ p. sym (then_answered s i.micros c k none_yet p.0 p.1))
 
     own_record : (s : List ℕ) (i : Instant) (c k : ℕ) (r : GivenRecord)
-        → AsksFile s i c (record { read = k; held = H.Record r }) ↔ (ReadUpTo s i.micros c k × ((j : ℕ) × LastOf s k i.micros c j × shown_as r s j))
+        → AsksFile s i c (Ok (record { read = k; latest = Some r })) ↔ (ReadUpTo s i.micros c k × ((j : ℕ) × LastOf s k i.micros c j × shown_as r s j))
     own_record s i c k r = (
       λ p.
-          let x = answered_then s i.micros c k (holds (record_from r)) (sym p.answer) in
+          let x = answered_then s i.micros c k (holds (record_from r)) (sym p) in
           (x.0, (x.1.0, x.1.1, same_record s (unsigned_at s 0 4) x.1.0 r refl x.1.2)),
       λ p.
           let h = p.1.2 in
-          let e = then_answered s i.micros c k (holds (record_from r)) p.0 (p.1.0, p.1.1, rw (h.0, h.1, h.2, h.3, h.4, h.5)) in
-          record { answer = sym e; count = told s i.micros c k (holds (record_from r)) e },
+          sym (then_answered s i.micros c k (holds (record_from r)) p.0 (p.1.0, p.1.1, rw (h.0, h.1, h.2, h.3, h.4, h.5))),
     )
 
-    own-refused : (s : List ℕ) (i : Instant) (c k : ℕ) (f : Refusal)
-        → AsksFile s i c (record { read = k; held = H.Refused f }) ↔ ((k ≡ 0) × (question twelve s i.micros c ≡ refused (refusal_number f)))
-    own-refused s i c k f = (
-      λ p. (p.count ∙ ap records_read (sym p.answer), sym p.answer),
-      λ p. record { answer = sym p.1; count = p.0 ∙ sym (ap records_read p.1) },
-    )
+    own-refused : (s : List ℕ) (i : Instant) (c : ℕ) (f : Refusal) → AsksFile s i c (Err f) ↔ (question twelve s i.micros c ≡ refused (refusal_number f))
+    own-refused s i c f = (λ p. sym p, λ p. sym p)
 
 numbers_same : (h : Held) → held_or_zeros h ≡ five_numbers_held h
 unfolding held_numbers

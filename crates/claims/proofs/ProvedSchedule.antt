@@ -23,7 +23,7 @@ use Rattle.card.proofs.Limits as limits
 use Rattle.card.proofs.Stepping as stepping
 use Rattle.card.proofs.Bench as bench
 use Rattle.schedule.specs.declared.Record.{Record as GivenRecord}
-use Rattle.schedule.specs.declared.Found.TheVariants as G
+use Rattle.std.specs.Prelude.{Ok}
 use Rattle.schedule.specs.Meaning.{record_from}
 use Rattle.schedule.specs.Calls.{FindsRecord}
 use Rattle.schedule.proofs.Finding.{asked_refused}
@@ -122,10 +122,10 @@ same_record s n i r e h = (
   ap (λ (x : Record). x.instant) h,
 )
 
-own_found : (s : List ℕ) (i : ℕ) (r : GivenRecord) → FindsRecord s (suc i) (G.Record r) ↔ (Card s × (i < unsigned_at s 0 4) × shown_as r s i)
+own_found : (s : List ℕ) (i : ℕ) (r : GivenRecord) → FindsRecord s (suc i) (Ok r) ↔ (Card s × (i < unsigned_at s 0 4) × shown_as r s i)
 own_found s i r = (λ e. go (full_reading twelve s) refl e, λ p. back p)
   where
-    go : (w : FullReading) → full_reading twelve s ≡ w → FindsRecord s (suc i) (G.Record r) → Card s × (i < unsigned_at s 0 4) × shown_as r s i
+    go : (w : FullReading) → full_reading twelve s ≡ w → FindsRecord s (suc i) (Ok r) → Card s × (i < unsigned_at s 0 4) × shown_as r s i
     go (refused_at q m) e f = let k = asked_refused s (suc i) q m e in absurd (let z : ◌≡◌ {A = ℕ} 0 1 = cc in omega arith)
     go (records n) e f =
         let c = (file_accepted_exactly s n).0 e in
@@ -135,13 +135,13 @@ own_found s i r = (λ e. go (full_reading twelve s) refl e, λ p. back p)
         (λ (l : n ≤ i). let k = t.1 (suc i) (omega arith) in absurd (let z : ◌≡◌ {A = ℕ} 0 1 = cc in omega arith))
         (lt_or_le i n)
 
-    back : Card s × (i < unsigned_at s 0 4) × shown_as r s i → FindsRecord s (suc i) (G.Record r)
+    back : Card s × (i < unsigned_at s 0 4) × shown_as r s i → FindsRecord s (suc i) (Ok r)
     back p =
         let e = (file_accepted_exactly s (unsigned_at s 0 4)).1 (p.0, refl) in
         let h = p.2 in
         rw (h.0, h.1, h.2, h.3, h.4, h.5) (sym (((the_record_lem s).0 (unsigned_at s 0 4) e).0 i p.1))
 
-own_none : (s : List ℕ) (r : GivenRecord) → FindsRecord s 0 (G.Record r) → ⊥
+own_none : (s : List ℕ) (r : GivenRecord) → FindsRecord s 0 (Ok r) → ⊥
 own_none s r f = go (full_reading twelve s) refl
   where
     go : (w : FullReading) → full_reading twelve s ≡ w → ⊥

@@ -2,9 +2,9 @@
 -- the first demand, "bad input gets the first refusal that applies; then no value comes back, the count is zero, the lent buffer is unchanged", and the
 -- second, "for all six kinds the octets written and the value read are those of the format".
 --
--- o is what writing or reading comes to by the format, `lent` the buffer as it was lent, `left` as it was left, r the code's answer. `W.Octets n` is a
--- writer's 'n octets', `G.Stamp` a reader's stamp, and `D.Date` .. the kind that it names.
-use Rattle.std.specs.Prelude.{ℕ, ◌<◌, ◌≤◌, ◌≡◌, ◌↔◌, true, false, List, ◌++◌, ℤ, length, take, drop}
+-- o is what writing or reading comes to by the format, `lent` the buffer as it was lent, `left` as it was left, r the code's answer. `Ok n` is a
+-- writer's 'n octets', `Ok d` a reader's stamp, `D.Date` .. the kind that it names, and `Err f` a refusal.
+use Rattle.std.specs.Prelude.{ℕ, ◌<◌, ◌≤◌, ◌≡◌, ◌↔◌, true, false, List, ◌++◌, ℤ, length, take, drop, Result, Ok, Err}
 use Rattle.format.specs.Words.{Outcome, accepted, refused}
 use Rattle.format.specs.Octets.{Octets}
 use Rattle.format.specs.Values as format
@@ -20,19 +20,11 @@ use Rattle.values.specs.declared.kinds.Datetime.{Datetime}
 use Rattle.values.specs.declared.kinds.DatetimeTz.{DatetimeTz}
 use Rattle.values.specs.declared.refusal.Refusal.{Refusal}
 use Rattle.values.specs.declared.settings.Settings.{Settings}
-use Rattle.values.specs.declared.answers.Written.{Written}
-use Rattle.values.specs.declared.answers.Written.TheVariants as W
-use Rattle.values.specs.declared.answers.DateAnswer.{DateAnswer}
-use Rattle.values.specs.declared.answers.DateTzAnswer.{DateTzAnswer}
-use Rattle.values.specs.declared.answers.TimeAnswer.{TimeAnswer}
-use Rattle.values.specs.declared.answers.TimeTzAnswer.{TimeTzAnswer}
-use Rattle.values.specs.declared.answers.DatetimeAnswer.{DatetimeAnswer}
-use Rattle.values.specs.declared.answers.DatetimeTzAnswer.{DatetimeTzAnswer}
+use Rattle.values.specs.declared.answers.Answer.{Answer}
+use Rattle.values.specs.declared.answers.Decoded.{Decoded}
 use Rattle.values.specs.declared.answers.Decoded.TheVariants as D
-use Rattle.values.specs.declared.answers.Reading.{Reading}
-use Rattle.values.specs.declared.answers.Reading.TheVariants as G
 use Rattle.values.specs.Meaning.{refusal_number, settings_from, date_value, date_tz_value, time_value, time_tz_value, datetime_value, datetime_tz_value}
-use Rattle.values.specs.Answers.{written_number, written_count, reading}
+use Rattle.values.specs.Answers.{written_number, written_count, outcome, decoded}
 use Rattle.values.specs.Promise.{Writes, Reads}
 use Rattle.values.specs.Calls.{SettingsForForm}
 use Rattle.stamp.specs.Calls.{WritesDate, WritesDateTz, WritesTime, WritesTimeTz, WritesDatetime, WritesDatetimeTz}
@@ -44,14 +36,14 @@ use Rattle.claims.specs.Claims.{said}
 -- Refused, nothing happens: the count is zero and every octet is as lent; a refused reading has the refusal's number and no value.
 abbrev pub RefusedNothingHappens : Type 0
 RefusedNothingHappens =
-    ((o : Outcome (List ℕ)) (lent left : List ℕ) (r : Written) → Writes o lent r left → (written_number r ≡ 0 → ⊥)
+    ((o : Outcome (List ℕ)) (lent left : List ℕ) (r : Result ℕ Refusal) → Writes o lent r left → (written_number r ≡ 0 → ⊥)
     → (written_count r ≡ 0) × (left ≡ lent))
-    × ((n : ℕ) (r : Reading) → Reads (refused n) r → (f : Refusal) × (r ≡ G.Refused f) × (refusal_number f ≡ n))
+    × ((n : ℕ) (r : Result Decoded Refusal) → Reads (refused n) r → (f : Refusal) × (r ≡ Err f) × (refusal_number f ≡ n))
 
 -- Accepted otherwise: the number is 0 exactly where no test fails; then the count is the image's length, the image stands in front, and the rest is as lent.
 abbrev pub AcceptedOtherwise : Type 0
 AcceptedOtherwise =
-    (k : format.Kind) (t : format.Settings) (v : format.Value) (lent left : List ℕ) (r : Written) → Writes (encode k t v) lent r left
+    (k : format.Kind) (t : format.Settings) (v : format.Value) (lent left : List ℕ) (r : Result ℕ Refusal) → Writes (encode k t v) lent r left
     → (let image = image_in k (form_for k t v) v in
     ((written_number r ≡ 0)
     ↔ ((format.digits_in_range t.digits ≡ true) × (format.in_range k v ≡ true) × (has_form k (form_for k t v) v ≡ true) × (length image ≤ length lent)))
@@ -75,8 +67,8 @@ abbrev pub kept : format.Kind → Settings → format.Value → Outcome format.A
 kept k t v = accepted (said k (form_for k (settings_from t) v) (cut k (form_for k (settings_from t) v) v))
 
 -- over n octets that were written and then read
-abbrev pub ReadsBack : (List ℕ → Written → List ℕ → Type 0) → (List ℕ → Reading → Type 0) → Outcome format.Answer → Type 0
-ReadsBack Wrote Reader o = (lent left : List ℕ) (n : ℕ) (r : Reading) → Wrote lent (W.Octets n) left → Reader (take n left) r → reading r ≡ o
+abbrev pub ReadsBack : (List ℕ → Result ℕ Refusal → List ℕ → Type 0) → (List ℕ → Result Decoded Refusal → Type 0) → Outcome format.Answer → Type 0
+ReadsBack Wrote Reader o = (lent left : List ℕ) (n : ℕ) (r : Result Decoded Refusal) → Wrote lent (Ok n) left → Reader (take n left) r → outcome decoded r ≡ o
 
 abbrev pub OwnReaderReadsBack : Type 0
 OwnReaderReadsBack =
@@ -103,16 +95,16 @@ EitherReaderReadsBack =
     → ReadsBack (WritesDatetimeTz t v) ReadsDatetimeOrDatetimeTz (kept format.DatetimeTz t (datetime_tz_value v)))
 
 -- And what our reader of a kind accepted, our writer writes again, octet for octet, under `Settings::for_form` of the form found.
-abbrev pub WritesAgain : List ℕ → (List ℕ → Written → List ℕ → Type 0) → Type 0
+abbrev pub WritesAgain : List ℕ → (List ℕ → Result ℕ Refusal → List ℕ → Type 0) → Type 0
 WritesAgain s Wrote =
-    (lent left : List ℕ) (r : Written) → Wrote lent r left → length s ≤ length lent → (r ≡ W.Octets (length s)) × (left ≡ s ++ drop (length s) lent)
+    (lent left : List ℕ) (r : Result ℕ Refusal) → Wrote lent r left → length s ≤ length lent → (r ≡ Ok (length s)) × (left ≡ s ++ drop (length s) lent)
 
 abbrev pub OwnWriterWritesAgain : Type 0
 OwnWriterWritesAgain =
     (s : List ℕ) (t : Settings) → Octets s
-    → ((a : DateAnswer) → ReadsDate s (G.Stamp (D.Date a)) → SettingsForForm a.form t → WritesAgain s (WritesDate t a.value))
-    × ((a : DateTzAnswer) → ReadsDateTz s (G.Stamp (D.DateTz a)) → SettingsForForm a.form t → WritesAgain s (WritesDateTz t a.value))
-    × ((a : TimeAnswer) → ReadsTime s (G.Stamp (D.Time a)) → SettingsForForm a.form t → WritesAgain s (WritesTime t a.value))
-    × ((a : TimeTzAnswer) → ReadsTimeTz s (G.Stamp (D.TimeTz a)) → SettingsForForm a.form t → WritesAgain s (WritesTimeTz t a.value))
-    × ((a : DatetimeAnswer) → ReadsDatetime s (G.Stamp (D.Datetime a)) → SettingsForForm a.form t → WritesAgain s (WritesDatetime t a.value))
-    × ((a : DatetimeTzAnswer) → ReadsDatetimeTz s (G.Stamp (D.DatetimeTz a)) → SettingsForForm a.form t → WritesAgain s (WritesDatetimeTz t a.value))
+    → ((a : Answer Date) → ReadsDate s (Ok (D.Date a)) → SettingsForForm a.form t → WritesAgain s (WritesDate t a.value))
+    × ((a : Answer DateTz) → ReadsDateTz s (Ok (D.DateTz a)) → SettingsForForm a.form t → WritesAgain s (WritesDateTz t a.value))
+    × ((a : Answer Time) → ReadsTime s (Ok (D.Time a)) → SettingsForForm a.form t → WritesAgain s (WritesTime t a.value))
+    × ((a : Answer TimeTz) → ReadsTimeTz s (Ok (D.TimeTz a)) → SettingsForForm a.form t → WritesAgain s (WritesTimeTz t a.value))
+    × ((a : Answer Datetime) → ReadsDatetime s (Ok (D.Datetime a)) → SettingsForForm a.form t → WritesAgain s (WritesDatetime t a.value))
+    × ((a : Answer DatetimeTz) → ReadsDatetimeTz s (Ok (D.DatetimeTz a)) → SettingsForForm a.form t → WritesAgain s (WritesDatetimeTz t a.value))

@@ -15,9 +15,9 @@
 --   Looked s t k            k records are looked at: those up to the first that is later or bad, and that one; or all; none where the header is bad
 --   ReadUpTo s t c k        with a good channel and header, k records are read, all good, up to the first later one
 --   SameOctets s u a n      s and u have the same n octets from place a on
---   AsksFile s i c r        what `holds` promises (`schedule/specs/Calls.antt`): r is its answer, with `H.NoneYet`, `H.Record r` or `H.Refused f`
+--   AsksFile s i c r        what `holds` promises (`schedule/specs/Calls.antt`): r is its answer, `Ok` with the number read and `None` or `Some r`, or `Err f`
 --   HoldsForC               what the C function promises (`boundary/specs/Files.antt`)
-use Rattle.std.specs.Prelude.{ℕ, suc, ◌+◌, ◌*◌, ◌<◌, ◌≤◌, ◌≡◌, ◌↔◌, ◌⊎◌, true, List, [], ◌∷◌, ℤ, pos, length, get_or}
+use Rattle.std.specs.Prelude.{ℕ, suc, ◌+◌, ◌*◌, ◌<◌, ◌≤◌, ◌≡◌, ◌↔◌, ◌⊎◌, true, List, [], ◌∷◌, ℤ, pos, length, get_or, Some, None, Ok, Err}
 use Rattle.std.specs.Int.Signed.{le_z}
 use Rattle.format.specs.Words.{accepted, refused}
 use Rattle.format.specs.Octets.{Octets, unsigned_at}
@@ -27,7 +27,6 @@ use Rattle.card.specs.Reading.{records, refused_at, full_reading}
 use Rattle.card.specs.Question.{Held, none_yet, holds, Asked, question}
 use Rattle.card.specs.BenchOfQuestions.{Holding, LastOfTwo, NoneYet, OfChannels, OfRecordsRead}
 use Rattle.instants.specs.declared.Instant.{Instant}
-use Rattle.schedule.specs.declared.Held.TheVariants as H
 use Rattle.schedule.specs.declared.Record.{Record as GivenRecord}
 use Rattle.schedule.specs.declared.Refusal.{Refusal}
 use Rattle.schedule.specs.Meaning.{refusal_number}
@@ -163,14 +162,13 @@ QuestionsMet = Holding × LastOfTwo × NoneYet × OfChannels × OfRecordsRead
 abbrev pub ReadUpTo : List ℕ → ℤ → ℕ → ℕ → Type 0
 ReadUpTo s t c k = Channel c × Header s × FirstNot (NotLater s t) (unsigned_at s 0 4) k × ((j : ℕ) → j < k → Good s j)
 
--- `holds` answers none yet, or a record, with the number read, exactly where it is so; and a refusal exactly where the question is refused so: it "carries 0".
+-- `holds` answers none yet, or a record, with the number read, exactly where it is so; and a refusal exactly where the question is refused so: it carries no number read, and C gets 0 with it (`QuestionToC`).
 abbrev pub OwnQuestion : Type 0
 OwnQuestion =
-    ((s : List ℕ) (i : Instant) (c k : ℕ) → AsksFile s i c (record { read = k; held = H.NoneYet }) ↔ (ReadUpTo s i.micros c k × NoneOf s k i.micros c))
+    ((s : List ℕ) (i : Instant) (c k : ℕ) → AsksFile s i c (Ok (record { read = k; latest = None })) ↔ (ReadUpTo s i.micros c k × NoneOf s k i.micros c))
     × ((s : List ℕ) (i : Instant) (c k : ℕ) (r : GivenRecord)
-    → AsksFile s i c (record { read = k; held = H.Record r }) ↔ (ReadUpTo s i.micros c k × ((j : ℕ) × LastOf s k i.micros c j × shown_as r s j)))
-    × ((s : List ℕ) (i : Instant) (c k : ℕ) (f : Refusal)
-    → AsksFile s i c (record { read = k; held = H.Refused f }) ↔ ((k ≡ 0) × (question twelve s i.micros c ≡ refused (refusal_number f))))
+    → AsksFile s i c (Ok (record { read = k; latest = Some r })) ↔ (ReadUpTo s i.micros c k × ((j : ℕ) × LastOf s k i.micros c j × shown_as r s j)))
+    × ((s : List ℕ) (i : Instant) (c : ℕ) (f : Refusal) → AsksFile s i c (Err f) ↔ (question twelve s i.micros c ≡ refused (refusal_number f)))
 
 -- place, start of the stamp within the file, its length, instant, correction; none yet is five times 0
 abbrev pub five_numbers_held : Held → List ℤ

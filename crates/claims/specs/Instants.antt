@@ -19,7 +19,7 @@
 --   lt_z a b, le_z a b           a < b, a ≤ b, of integers; `a -ℤ b` is a less b; `signed_between a b x`: x is from -a to b; `A ⊎ B`: A or B
 --
 -- Here v and w are any values, and i, a, b, m, n, o, x, y any integers: those of 64 bits among them.
-use Rattle.std.specs.Prelude.{ℕ, ◌+◌, ◌*◌, ◌<◌, ◌≤◌, ◌≡◌, ◌↔◌, ◌⊎◌, Bool, true, false, List, [], ◌∷◌, ℤ, pos, nat_abs, neg_ℤ, ◌+ℤ◌, ◌-ℤ◌, ◌*ℤ◌, ltb}
+use Rattle.std.specs.Prelude.{ℕ, ◌+◌, ◌*◌, ◌<◌, ◌≤◌, ◌≡◌, ◌↔◌, ◌⊎◌, Bool, true, false, List, [], ◌∷◌, ℤ, pos, nat_abs, neg_ℤ, ◌+ℤ◌, ◌-ℤ◌, ◌*ℤ◌, ltb, Ok}
 use Rattle.std.specs.Int.Signed.{lt_z, le_z}
 use Rattle.format.specs.Words.{both, Outcome, accepted, refused}
 use Rattle.format.specs.Octets.{Octets}
@@ -30,14 +30,10 @@ use Rattle.moments.specs.Calls.{instant, add, difference, at, restate}
 use Rattle.moments.specs.Bench.{OfStamps, OfSums, OfRestating}
 use Rattle.values.specs.declared.parts.Offset.{Offset}
 use Rattle.values.specs.declared.kinds.DatetimeTz.{DatetimeTz as GivenStamp}
-use Rattle.values.specs.declared.answers.DatetimeTzAnswer.{DatetimeTzAnswer}
+use Rattle.values.specs.declared.answers.Answer.{Answer as GivenAnswer}
 use Rattle.values.specs.declared.answers.Decoded.TheVariants as D
-use Rattle.values.specs.declared.answers.Reading.TheVariants as G
 use Rattle.stamp.specs.Calls.{ReadsDatetimeTz}
 use Rattle.instants.specs.declared.Instant.{Instant}
-use Rattle.instants.specs.declared.Found.TheVariants as F
-use Rattle.instants.specs.declared.Apart.TheVariants as A
-use Rattle.instants.specs.declared.Stated.TheVariants as S
 use Rattle.instants.specs.Calls.{InstantOf, InstantAdd, InstantDifference, InstantAt, Restates}
 use Rattle.boundary.specs.Utc.{InstantForC, AddForC, DifferenceForC, AtForC, RestateForC}
 use Rattle.claims.specs.ReaderRefusals.{signed_between}
@@ -169,18 +165,18 @@ InstantsWorked = OfStamps × OfSums × OfRestating
 
 -- ---- what our own calls answer, over the promises that they are proved to keep
 
--- Every stamp that our reader of DatetimeTz accepts has an instant. (`F.Instant`, `A.Micros`, `S.Stamp` are answers that are accepted, `InstantOf` and the others what
--- the calls promise, in `instants/specs/Calls.antt`; `G.Stamp (D.DatetimeTz a)` is what the reader answers.)
+-- Every stamp that our reader of DatetimeTz accepts has an instant. (`Ok` is an answer that is accepted; `InstantOf` and the others are what the calls promise, in
+-- `instants/specs/Calls.antt`.)
 abbrev pub ReadStampsHaveInstants : Type 0
 ReadStampsHaveInstants =
-    (s : List ℕ) (a : DatetimeTzAnswer) → Octets s → ReadsDatetimeTz s (G.Stamp (D.DatetimeTz a)) → (i : Instant) × InstantOf a.value (F.Instant i)
+    (s : List ℕ) (a : GivenAnswer GivenStamp) → Octets s → ReadsDatetimeTz s (Ok (D.DatetimeTz a)) → (i : Instant) × InstantOf a.value (Ok i)
 
 -- What they answer fits together: a stamp restated has the instant that it had; the stamp of an instant has it; the difference of a and b, added to b, gives a.
 abbrev pub OwnCallsAgree : Type 0
 OwnCallsAgree =
-    ((v w : GivenStamp) (o : Offset) (i : Instant) → InstantOf v (F.Instant i) → Restates v o (S.Stamp w) → InstantOf w (F.Instant i))
-    × ((i : Instant) (o : Offset) (w : GivenStamp) → InstantAt i o (S.Stamp w) → InstantOf w (F.Instant i))
-    × ((a b : Instant) (n : ℤ) → InstantDifference a b (A.Micros n) → InstantAdd b n (F.Instant a))
+    ((v w : GivenStamp) (o : Offset) (i : Instant) → InstantOf v (Ok i) → Restates v o (Ok w) → InstantOf w (Ok i))
+    × ((i : Instant) (o : Offset) (w : GivenStamp) → InstantAt i o (Ok w) → InstantOf w (Ok i))
+    × ((a b : Instant) (n : ℤ) → InstantDifference a b (Ok n) → InstantAdd b n (Ok a))
 
 -- What C gets: after a refusal its number, and what was lent stays; else 0, and what the call comes to. A stamp is five numbers.
 abbrev pub Gets : {A B : Type 0} → (A → B) → Outcome A → B → ℕ → B → Type 0

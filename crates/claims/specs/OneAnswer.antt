@@ -2,7 +2,7 @@
 -- Each promise has the name that the call's contract cites (`specs/Calls.antt` of `calendar`, `values`, `stamp`, `instants` and `schedule`, `specs/Boundary.antt`, `specs/Utc.antt` and `specs/Files.antt` of `boundary`); `OneAnswer P`
 -- says that no two different answers meet P, and `OneWriting P` the same of a writer's answer and every octet of the buffer that it leaves; `OnePart P` of a part that is handed
 -- back; `OneWritingForC`, `OneReadingForC`, `OneNumberForC`, `OneCountForC`, `OneHoldingForC`, `OnePartForC` of the C functions.
-use Rattle.std.specs.Prelude.{ℕ, ◌≡◌, Bool, List, ℤ}
+use Rattle.std.specs.Prelude.{ℕ, ◌≡◌, Bool, List, ℤ, Result}
 use Rattle.std.specs.Borrow.{Bor}
 use Rattle.format.specs.Promises.{OneAnswer}
 use Rattle.calendar.specs.declared.Date.{Date}
@@ -15,24 +15,25 @@ use Rattle.values.specs.declared.kinds.Datetime.{Datetime}
 use Rattle.values.specs.declared.kinds.DatetimeTz.{DatetimeTz}
 use Rattle.values.specs.declared.kinds.Kind.{Kind}
 use Rattle.values.specs.declared.kinds.Value.{Value}
+use Rattle.values.specs.declared.answers.Decoded.{Decoded}
 use Rattle.values.specs.declared.refusal.Refusal.{Refusal}
 use Rattle.values.specs.declared.settings.Form.{Form}
 use Rattle.values.specs.declared.settings.Settings.{Settings}
-use Rattle.values.specs.declared.answers.Written.{Written}
 use Rattle.values.specs.Calls as values
 use Rattle.stamp.specs.Calls as stamp
 use Rattle.instants.specs.declared.Instant.{Instant}
 use Rattle.instants.specs.declared.Refusal.{Refusal as InstantsRefusal}
 use Rattle.instants.specs.Calls as instants
 use Rattle.schedule.specs.declared.Refusal.{Refusal as ScheduleRefusal}
+use Rattle.schedule.specs.declared.Fault.{Fault as ScheduleFault}
 use Rattle.schedule.specs.Calls as schedule
 use Rattle.format.specs.Values as format
 use Rattle.boundary.specs.Boundary as boundary
 use Rattle.boundary.specs.Utc as utc
 use Rattle.boundary.specs.Files as files
 
-abbrev pub OneWriting : (List ℕ → Written → List ℕ → Type 0) → Type 0
-OneWriting P = (lent : List ℕ) (r r' : Written) (left left' : List ℕ) → P lent r left → P lent r' left' → (r ≡ r') × (left ≡ left')
+abbrev pub OneWriting : (List ℕ → Result ℕ Refusal → List ℕ → Type 0) → Type 0
+OneWriting P = (lent : List ℕ) (r r' : Result ℕ Refusal) (left left' : List ℕ) → P lent r left → P lent r' left' → (r ≡ r') × (left ≡ left')
 
 abbrev pub CalendarAnswers : Type 0
 CalendarAnswers =
@@ -53,8 +54,13 @@ PartsAnswers =
     × ((k : Kind) → OneAnswer (values.KindDated k))
     × ((k : Kind) → OneAnswer (values.KindTimed k))
     × ((k : Kind) → OneAnswer (values.KindZoned k))
+    × ((n : ℕ) → OneAnswer (values.KindOfNumber n))
+    × ((k : Kind) → OneAnswer (values.KindNumber k))
     × ((v : Value) (k : Kind) → OneAnswer (values.ValueRestInRange v k))
     × ((v : Value) (k : Kind) → OneAnswer (values.ValueInRange v k))
+    × ((d : Decoded) → OneAnswer (values.DecodedKind d))
+    × ((d : Decoded) → OneAnswer (values.DecodedForm d))
+    × ((d : Decoded) → OneAnswer (values.DecodedValue d))
     × ((f : Refusal) → OneAnswer (values.RefusalNumber f))
 
 abbrev pub SettingsAnswers : Type 0
@@ -103,6 +109,8 @@ InstantsAnswers =
 abbrev pub ScheduleAnswers : Type 0
 ScheduleAnswers =
     ((f : ScheduleRefusal) → OneAnswer (schedule.RefusalNumber f))
+    × ((f : Refusal) → OneAnswer (schedule.RefusalOfStamp f))
+    × ((f : ScheduleFault) → OneAnswer (schedule.RefusalOfFault f))
     × ((s : List ℕ) → OneAnswer (schedule.ReadsFile s))
     × ((s : List ℕ) (p : ℕ) → OneAnswer (schedule.FindsRecord s p))
     × ((s : List ℕ) (i : Instant) (c : ℕ) → OneAnswer (schedule.AsksFile s i c))

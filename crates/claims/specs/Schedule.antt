@@ -14,10 +14,10 @@
 --   Faulty s i m              record i is refused with m: the first of the three that fails
 --   full_reading twelve s     what full reading comes to (`card/specs/Reading.antt`): `records n`, or `refused_at p m`, refused with m at the record of place p, from one
 --   record_asked twelve s p   what the record at the place p, from one, comes to
---   ReadsFile, FindsRecord    what `read` and `record_at` promise (`schedule/specs/Calls.antt`): `F.Records n`, `F.Refused f p`, `D.Record r`, `D.Refused f` are their answers
+--   ReadsFile, FindsRecord    what `read` and `record_at` promise (`schedule/specs/Calls.antt`): `Ok` and `Err` are their answers, an `Err` of `read` with the place too
 --   ReadForC, RecordForC      what the two C functions promise (`boundary/specs/Files.antt`); `Gets` is what C gets of a call (`Instants.antt`)
 --   le_z a b                  a ≤ b, of integers; `a -ℤ b` is a less b; `A ⊎ B`: A or B
-use Rattle.std.specs.Prelude.{ℕ, suc, ◌+◌, ◌*◌, ◌<◌, ◌≤◌, ◌≡◌, ◌↔◌, ◌⊎◌, true, List, [], ◌∷◌, ℤ, pos, nat_abs, ◌-ℤ◌, ◌*ℤ◌, length, take, drop}
+use Rattle.std.specs.Prelude.{ℕ, suc, ◌+◌, ◌*◌, ◌<◌, ◌≤◌, ◌≡◌, ◌↔◌, ◌⊎◌, true, List, [], ◌∷◌, ℤ, pos, nat_abs, ◌-ℤ◌, ◌*ℤ◌, length, take, drop, Ok, Err}
 use Rattle.std.specs.Int.Signed.{le_z}
 use Rattle.format.specs.Words.{Outcome, accepted, refused}
 use Rattle.format.specs.Octets.{Octets, unsigned_at, signed_of}
@@ -31,8 +31,6 @@ use Rattle.card.specs.Header.{twelve}
 use Rattle.card.specs.Records.{Record}
 use Rattle.card.specs.Reading.{records, refused_at, full_reading, record_asked}
 use Rattle.card.specs.Bench.{TheCard, Accepted, OfHeaders, OfFields, OfPlaces, OfStamps, OfOrder, FirstOfTwo, OfRecords}
-use Rattle.schedule.specs.declared.FullReading.TheVariants as F
-use Rattle.schedule.specs.declared.Found.TheVariants as D
 use Rattle.schedule.specs.declared.Record.{Record as GivenRecord}
 use Rattle.schedule.specs.declared.Refusal.{Refusal}
 use Rattle.schedule.specs.Meaning.{refusal_number}
@@ -183,8 +181,8 @@ EachRefusalMet = TheCard × Accepted × OfHeaders × OfFields × OfPlaces × OfS
 -- `read` answers that many records exactly where the file is so, and a refusal, with its place, where it is not; a refusal has no number of records with it.
 abbrev pub OwnReading : Type 0
 OwnReading =
-    ((s : List ℕ) (n : ℕ) → ReadsFile s (F.Records n) ↔ (Card s × (n ≡ unsigned_at s 0 4)))
-    × ((s : List ℕ) (f : Refusal) (p : ℕ) → ReadsFile s (F.Refused f p) ↔ (full_reading twelve s ≡ refused_at p (refusal_number f)))
+    ((s : List ℕ) (n : ℕ) → ReadsFile s (Ok n) ↔ (Card s × (n ≡ unsigned_at s 0 4)))
+    × ((s : List ℕ) (f : Refusal) (p : ℕ) → ReadsFile s (Err (record { refusal = f; place = p })) ↔ (full_reading twelve s ≡ refused_at p (refusal_number f)))
 
 -- `record_at` answers a record exactly where the file is so and has that place: the one there, with its stamp where it says, within the file; never at place 0; and a
 -- refusal exactly where the record is refused so.
@@ -195,9 +193,9 @@ shown_as r s i =
 
 abbrev pub OwnRecord : Type 0
 OwnRecord =
-    ((s : List ℕ) (i : ℕ) (r : GivenRecord) → FindsRecord s (suc i) (D.Record r) ↔ (Card s × (i < unsigned_at s 0 4) × shown_as r s i))
-    × ((s : List ℕ) (r : GivenRecord) → FindsRecord s 0 (D.Record r) → ⊥)
-    × ((s : List ℕ) (p : ℕ) (f : Refusal) → FindsRecord s p (D.Refused f) ↔ (record_asked twelve s p ≡ refused (refusal_number f)))
+    ((s : List ℕ) (i : ℕ) (r : GivenRecord) → FindsRecord s (suc i) (Ok r) ↔ (Card s × (i < unsigned_at s 0 4) × shown_as r s i))
+    × ((s : List ℕ) (r : GivenRecord) → FindsRecord s 0 (Ok r) → ⊥)
+    × ((s : List ℕ) (p : ℕ) (f : Refusal) → FindsRecord s p (Err f) ↔ (record_asked twelve s p ≡ refused (refusal_number f)))
 
 -- channel, correction, instant, start of the stamp within the file, its length
 abbrev pub five_numbers : Record → List ℤ

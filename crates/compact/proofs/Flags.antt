@@ -1,44 +1,21 @@
--- A kind's number since 2020-01-01, over the kind's flags: how it is made of the day and the milliseconds, and that it is
--- small, counted from the least, where it is within its limits. The laws of `Since` at the kind's units of a day. Assumes nothing.
+-- A kind's number since 2020-01-01, over the kind's flags: where it is within its limits, it is small, counted from the least. Assumes nothing.
 use mathlib.Core.Path.{◌≡◌, refl}
 use mathlib.Core.Bool.{Bool, true, false}
 use Prim.Native.Nat.{ℕ, zero, suc, ◌+◌, ◌*◌, ◌/◌, ◌^◌, ◌<◌, ◌≤◌}
 use native.Mathlib.Omega.{arith}
-use lib.IntN.{ℤ, pos, neg_ℤ, sub_ℕ, ◌+ℤ◌, ◌-ℤ◌, ◌*ℤ◌}
+use lib.IntN.{ℤ, pos, neg_ℤ, ◌-ℤ◌}
 use lib.Dec.{leb}
 use borrow.Author.Tests.{leb-true}
 use Rattle.format.specs.Words.{pick, if_any}
-use Rattle.format.specs.Calendar.{day_number}
-use Rattle.format.specs.Values.{Kind, dated, timed, Value}
-use Rattle.format.specs.Compact.{millis_per_day, epoch, per_day, start, count, number, greatest}
+use Rattle.format.specs.Values.{Kind, dated, timed}
+use Rattle.format.specs.Compact.{millis_per_day, epoch, per_day, start, greatest}
 use Rattle.format.specs.CompactReading.{not_before, counted, number_in_range}
 use Rattle.format.proofs.Cases.{both_true}
-use Rattle.compact.proofs.Since.{join_since, add_since}
-
--- ---- made
-
-pub number_made : (k : Kind) (v : Value) (day : ℕ) → (dated k ≡ true → day ≡ day_number v.date)
-    → number k v ≡ sub_ℕ (if_any (dated k) day) (if_any (dated k) epoch) *ℤ pos (per_day k) +ℤ pos (if_any (timed k) (v.micros / 1000))
-unfolding number count start
-number_made k v day h = go (dated k) h
-  where
-    go : (d : Bool) → (d ≡ true → day ≡ day_number v.date)
-        → sub_ℕ (if_any d (day_number v.date) * per_day k + if_any (timed k) (v.micros / 1000)) (if_any d (epoch * per_day k))
-        ≡ sub_ℕ (if_any d day) (if_any d epoch) *ℤ pos (per_day k) +ℤ pos (if_any (timed k) (v.micros / 1000))
-    go true h = rw (h refl) (join_since (day_number v.date) epoch (per_day k) (if_any (timed k) (v.micros / 1000)))
-    go false h =
-        let z : 0 * per_day k ≡ 0 = omega arith in
-        rw z (rw z at (join_since 0 0 (per_day k) (if_any (timed k) (v.micros / 1000))))
-
--- ---- counted from the least, and split
+use Rattle.compact.proofs.Since.{add_since}
 
 pub units_timed : (k : Kind) → timed k ≡ true → per_day k ≡ millis_per_day
 unfolding per_day
 units_timed k t = rw t
-
-pub units_plain : (k : Kind) → timed k ≡ false → per_day k ≡ 1
-unfolding per_day
-units_plain k t = rw t
 
 -- the last day is 9999-12-31
 last_day : (t c : Bool) (n : ℕ) → n ≤ epoch * pick t millis_per_day 1 + pick t (pick c 251824463999999 140737488355327) 2914634 → n / pick t millis_per_day 1 < 3652059

@@ -3,12 +3,16 @@ use mathlib.Core.Path.{◌≡◌, sym, ◌∙◌}
 use mathlib.Core.Logic.{⊎_elim}
 use mathlib.Core.Bool.{true}
 use mathlib.Core.List.{List}
-use Prim.Native.Nat.{ℕ, ◌-◌, ◌<◌, ◌≤◌, max}
+use Prim.Native.Nat.{ℕ, ◌-◌, ◌*◌, ◌%◌, ◌^◌, ◌<◌, ◌≤◌, max}
 use native.Mathlib.Nat.{lt_of_lt_of_le, lt_of_not-le, not-le_of_lt}
 use native.Mathlib.Omega.{arith}
+use lib.IntN.{pos}
 use lib.Signed.{mag}
 use lib.Dec.{leb, eqb}
 use lib.ListN.{length}
+use mir.Syntax.{w64}
+use mir.Val.{to_z}
+use mir.Facts.{to_z_pos}
 use borrow.Author.Tests.{le-leb, lt-leb, eq-eqb, ne_eqb}
 use Rattle.format.specs.Octets.{Octets, half, signed_of, fewest_octets, tight}
 use Rattle.format.proofs.Cases.{eq_or_ne, lt_or_le}
@@ -47,3 +51,11 @@ pub octets_fit_lem : (s : List ℕ) (n : ℕ) → Octets s → 1 ≤ length s �
 octets_fit_lem s n o p h =
     let x = signed_of s in
     lt_of_lt_of_le (least x).holds (half_mono (fewest_octets x) n (omega (arith, fewest_octets_lem s o p)))
+
+-- what one octet fewer than n holds, as a bit of 64
+pub halved : (n : ℕ) → 2 ≤ n → n ≤ 7 → to_z w64 (1 * 2 ^ (8 * n - 9) % 18446744073709551616) ≡ pos (half (n - 1))
+halved n a b =
+    let e : 8 * n - 9 ≡ 8 * (n - 1) - 1 = omega arith in
+    let h : half (n - 1) ≤ half 6 = half_mono (n - 1) 6 (omega arith) in
+    let m : 1 * half (n - 1) % 18446744073709551616 ≡ half (n - 1) = omega arith in
+    rw (e, m) (to_z_pos w64 {n = half (n - 1)} (omega arith))

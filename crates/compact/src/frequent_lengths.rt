@@ -1,181 +1,98 @@
 // Images of the lengths that most values have, taken without a loop: the number is one or two loads, and whether it is the shortest is seen
-// from the number. The other lengths are rare, and left to `take`.
-ghost use Rattle.std.specs.Prelude.{◌≡◌, true, false, not, ◌≤◌, pos, nat_abs, eqb, length, take};
-ghost use Rattle.format.specs.Words.{both};
-ghost use Rattle.format.specs.Values.{DateTz, TimeTz, DatetimeTz};
-ghost use Rattle.format.specs.Octets.{signed_of};
-ghost use Rattle.compact.specs.Meaning.{Sees, SeesAlone};
+// from the number. The other lengths are rare, and left to `take`. All of it is compiled into each reader, where the kind is known: in a call the
+// choice would cost more than the look.
+ghost use Rattle.std.specs.Prelude.{◌≡◌, true, false, Some, ◌+◌, ◌-◌, ◌≤◌, leb, ltb, length, take, drop};
+ghost use Rattle.std.specs.Int.Signed.{mag};
+ghost use Rattle.format.specs.Words.{needs, if_any};
+ghost use Rattle.format.specs.Octets.{half, signed_of};
+ghost use Rattle.format.specs.Compact.{padded_to};
+ghost use Rattle.format.specs.CompactReading.{longest, carried_in};
+ghost use Rattle.values.specs.Meaning.{kind_from};
+ghost use Rattle.compact.specs.Meaning.{Sees};
 
 use crate::reading::Taken;
-use crate::{lengths, reading};
+use crate::{lengths, limits, reading};
 use values::Kind;
 
-#[derive(Clone, Copy)]
-pub enum Seen {
-    Taken(Taken),
-    Rare,
+// N octets at a place as a number.
+fn signed<const N: usize>(s: &[u8], at: usize) -> i64
+    requires { (2 ≤ N) × (N ≤ 7) × (at + N ≤ length s.now) }
+    ensures { result ≡ signed_of (take N (drop at s.now)) }
+{
+    match N {
+        2 => octets::signed_2(s, at),
+        3 => octets::signed_3(s, at),
+        4 => octets::signed_4(s, at),
+        5 => octets::signed_5(s, at),
+        6 => octets::signed_6(s, at),
+        _ => octets::signed_7(s, at),
+    }
 }
 
-// So many octets hold the numbers from -half to half - 1.
-const HALF_1: i64 = 128;
-
-const HALF_2: i64 = 32_768;
-
-const HALF_3: i64 = 8_388_608;
-
-const HALF_4: i64 = 2_147_483_648;
-
-const HALF_5: i64 = 549_755_813_888;
-
-const HALF_6: i64 = 140_737_488_355_328;
-
-// ---- no offset in front
-
-fn alone(number: i64, usual: bool) -> Taken
-    ensures { (result.front ≡ false) × (result.minutes ≡ pos 0) × (result.number ≡ number) × (result.usual ≡ usual) }
+// Whether N octets are no more than their number takes: one fewer would not hold it. Padded ones are not looked at.
+fn is_shortest<const N: usize>(kind: Kind, front: bool, number: i64) -> bool
+    requires { (2 ≤ N) × (N ≤ 7) }
+    ensures { result ≡ needs (ltb (padded_to (kind_from kind) front) N) (leb (half (N - 1)) (mag number)) }
 {
+    N <= limits::padded_to(kind, front) || octets::is_beyond(number, 1 << (8 * N - 9))
+}
+
+// A number of N octets, behind an offset or alone.
+#[inline(always)]
+fn taken<const N: usize>(kind: Kind, front: bool, s: &[u8]) -> Taken
+    requires octets { (2 ≤ N) × (N ≤ 7) × (length s.now ≡ if_any front 2 + N) }
+    requires kind { (carried_in (kind_from kind) (length s.now) ≡ front) × (length s.now ≤ longest (kind_from kind)) }
+    ensures { Sees (kind_from kind) s.now (Some result) }
+{
+    let offset = reading::offset_in(s, front);
+    let number = signed::<N>(s, limits::front_octets(front));
     Taken {
-        front: false,
-        minutes: 0,
+        offset,
         number,
-        usual,
+        usual: is_shortest::<N>(kind, front, number) && reading::is_needed(kind, offset),
     }
 }
 
-pub fn date_alone(s: &[u8]) -> Seen
-    ensures { SeesAlone 3 s.now result }
+#[inline(always)]
+fn alone(kind: Kind, s: &[u8]) -> Option<Taken>
+    requires { carried_in (kind_from kind) (length s.now) ≡ false }
+    ensures { Sees (kind_from kind) s.now result }
 {
-    if s.len() == 2 {
-        let number = octets::signed_2(s, 0);
-        return Seen::Taken(alone(number, octets::is_beyond(number, HALF_1)));
-    }
-    if s.len() == 3 {
-        let number = octets::signed_3(s, 0);
-        return Seen::Taken(alone(number, octets::is_beyond(number, HALF_2)));
-    }
-    Seen::Rare
-}
-
-pub fn time_alone(s: &[u8]) -> Seen
-    ensures { SeesAlone 4 s.now result }
-{
-    if s.len() == 4 {
-        let number = octets::signed_4(s, 0);
-        return Seen::Taken(alone(number, octets::is_beyond(number, HALF_3)));
-    }
-    if s.len() == 3 {
-        let number = octets::signed_3(s, 0);
-        return Seen::Taken(alone(number, octets::is_beyond(number, HALF_2)));
-    }
-    Seen::Rare
-}
-
-pub fn datetime_alone(s: &[u8]) -> Seen
-    ensures { SeesAlone 6 s.now result }
-{
-    if s.len() == 6 {
-        let number = octets::signed_6(s, 0);
-        return Seen::Taken(alone(number, octets::is_beyond(number, HALF_5)));
-    }
-    if s.len() == 5 {
-        let number = octets::signed_5(s, 0);
-        return Seen::Taken(alone(number, octets::is_beyond(number, HALF_4)));
-    }
-    Seen::Rare
-}
-
-// ---- an offset in front
-
-fn behind(s: &[u8], number: i64, usual: bool) -> Taken
-    requires { 2 ≤ length s.now }
-    ensures { (result.front ≡ true) × (result.minutes ≡ signed_of (take 2 s.now)) × (result.number ≡ number) × (result.usual ≡ usual) }
-{
-    let minutes = reading::minutes_in(s, true);
-    Taken {
-        front: true,
-        minutes,
-        number,
-        usual,
+    match (kind, s.len()) {
+        (Kind::Date, 2) => Some(taken::<2>(kind, false, s)),
+        (Kind::Date, 3) => Some(taken::<3>(kind, false, s)),
+        (Kind::Time | Kind::TimeTz, 4) => Some(taken::<4>(kind, false, s)),
+        (Kind::Time | Kind::TimeTz, 3) => Some(taken::<3>(kind, false, s)),
+        (Kind::Datetime | Kind::DatetimeTz, 6) => Some(taken::<6>(kind, false, s)),
+        (Kind::Datetime | Kind::DatetimeTz, 5) => Some(taken::<5>(kind, false, s)),
+        _ => None,
     }
 }
 
-// Zero is not written in front of a time.
-fn behind_needed(s: &[u8], number: i64, shortest: bool) -> Taken
-    requires { 2 ≤ length s.now }
-    ensures { (result.front ≡ true) × (result.minutes ≡ signed_of (take 2 s.now)) × (result.number ≡ number) × (result.usual ≡ both shortest (not (eqb (nat_abs result.minutes) 0))) }
+#[inline(always)]
+fn behind(kind: Kind, s: &[u8]) -> Option<Taken>
+    requires { carried_in (kind_from kind) (length s.now) ≡ true }
+    ensures { Sees (kind_from kind) s.now result }
 {
-    let minutes = reading::minutes_in(s, true);
-    let usual = if shortest { minutes != 0 } else { false };
-    Taken {
-        front: true,
-        minutes,
-        number,
-        usual,
+    match (kind, s.len()) {
+        (Kind::DateTz, 4) => Some(taken::<2>(kind, true, s)),
+        (Kind::DateTz, 5) => Some(taken::<3>(kind, true, s)),
+        (Kind::TimeTz, 6) => Some(taken::<4>(kind, true, s)),
+        (Kind::TimeTz, 5) => Some(taken::<3>(kind, true, s)),
+        (Kind::DatetimeTz, 8) => Some(taken::<6>(kind, true, s)),
+        (Kind::DatetimeTz, 7) => Some(taken::<5>(kind, true, s)),
+        (Kind::DatetimeTz, 9) => Some(taken::<7>(kind, true, s)),
+        _ => None,
     }
 }
 
-pub fn date_behind(s: &[u8]) -> Seen
-    ensures { Sees DateTz s.now result }
+#[inline(always)]
+pub fn at_a_glance(kind: Kind, s: &[u8]) -> Option<Taken>
+    ensures { Sees (kind_from kind) s.now result }
 {
-    if s.len() == 4 {
-        return Seen::Taken(behind(s, octets::signed_2(s, 2), true));
+    if lengths::carried_in(kind, s.len()) {
+        behind(kind, s)
+    } else {
+        alone(kind, s)
     }
-    if s.len() == 5 {
-        let number = octets::signed_3(s, 2);
-        return Seen::Taken(behind(s, number, octets::is_beyond(number, HALF_2)));
-    }
-    Seen::Rare
-}
-
-pub fn time_alone_or_behind(s: &[u8]) -> Seen
-    ensures { Sees TimeTz s.now result }
-{
-    if !lengths::carried_in(Kind::TimeTz, s.len()) {
-        return time_alone(s);
-    }
-    if s.len() == 6 {
-        let number = octets::signed_4(s, 2);
-        return Seen::Taken(behind_needed(s, number, octets::is_beyond(number, HALF_3)));
-    }
-    if s.len() == 5 {
-        return Seen::Taken(behind_needed(s, octets::signed_3(s, 2), true));
-    }
-    Seen::Rare
-}
-
-pub fn datetime_alone_or_behind(s: &[u8]) -> Seen
-    ensures { Sees DatetimeTz s.now result }
-{
-    if !lengths::carried_in(Kind::DatetimeTz, s.len()) {
-        return datetime_alone(s);
-    }
-    if s.len() == 8 {
-        let number = octets::signed_6(s, 2);
-        return Seen::Taken(behind_needed(s, number, octets::is_beyond(number, HALF_5)));
-    }
-    if s.len() == 7 {
-        return Seen::Taken(behind_needed(s, octets::signed_5(s, 2), true));
-    }
-    if s.len() == 9 {
-        let number = octets::signed_7(s, 2);
-        return Seen::Taken(behind_needed(s, number, octets::is_beyond(number, HALF_6)));
-    }
-    Seen::Rare
-}
-
-// The same for whoever asks for no date, by a function of its own: one that two readers call is not inlined, and both are slower then.
-pub fn datetime_at_a_glance(s: &[u8]) -> Seen
-    ensures { Sees DatetimeTz s.now result }
-{
-    if !lengths::carried_in(Kind::DatetimeTz, s.len()) {
-        return datetime_alone(s);
-    }
-    if s.len() == 7 {
-        return Seen::Taken(behind_needed(s, octets::signed_5(s, 2), true));
-    }
-    if s.len() == 8 {
-        let number = octets::signed_6(s, 2);
-        return Seen::Taken(behind_needed(s, number, octets::is_beyond(number, HALF_5)));
-    }
-    Seen::Rare
 }

@@ -1,7 +1,7 @@
 // Which lengths a compact image can have, and where an offset is seen from the length.
 ghost use Rattle.std.specs.Prelude.{◌≡◌, leb};
 ghost use Rattle.format.specs.Words.{both};
-ghost use Rattle.format.specs.CompactReading.{longest, shortest, longest_plain, carried_in};
+ghost use Rattle.format.specs.CompactReading.{longest, shortest, carried_in};
 ghost use Rattle.values.specs.Meaning.{kind_from};
 
 use values::Kind;
@@ -20,49 +20,31 @@ pub fn longest(kind: Kind) -> usize
 }
 
 // A DateTz always has its offset, and two octets behind it.
+#[tactic(auto, unfolding(format::specs::CompactReading::shortest))]
 fn shortest(kind: Kind) -> usize
     ensures { result ≡ shortest (kind_from kind) }
 {
-    if kind.timed() {
-        return 1;
+    match kind {
+        Kind::DateTz => 4,
+        _ => 1,
     }
-    if !kind.zoned() {
-        return 1;
-    }
-    4
 }
 
 pub fn has_length(kind: Kind, octets: usize) -> bool
     ensures { result ≡ both (leb (shortest (kind_from kind)) octets) (leb octets (longest (kind_from kind))) }
 {
-    if octets < shortest(kind) {
-        return false;
-    }
-    octets <= longest(kind)
+    shortest(kind) <= octets && octets <= longest(kind)
 }
 
-// The most octets of a number without an offset.
-fn longest_plain(kind: Kind) -> usize
-    ensures { result ≡ longest_plain (kind_from kind) }
-{
-    if !kind.dated() {
-        return longest(Kind::Time);
-    }
-    if kind.timed() {
-        return longest(Kind::Datetime);
-    }
-    longest(Kind::Date)
-}
-
-// Whether so many octets have an offset in front.
+// Whether so many octets have an offset in front: of a time they are more than a number without an offset has.
+#[tactic(auto, unfolding(format::specs::CompactReading::carried_in, format::specs::CompactReading::longest_plain))]
 pub fn carried_in(kind: Kind, octets: usize) -> bool
     ensures { result ≡ carried_in (kind_from kind) octets }
 {
-    if !kind.zoned() {
-        return false;
+    match kind {
+        Kind::DateTz => true,
+        Kind::TimeTz => longest(Kind::Time) < octets,
+        Kind::DatetimeTz => longest(Kind::Datetime) < octets,
+        Kind::Date | Kind::Time | Kind::Datetime => false,
     }
-    if !kind.timed() {
-        return true;
-    }
-    longest_plain(kind) < octets
 }

@@ -1,7 +1,7 @@
-// What document 01 sets for each kind: the units of a day, the least and the greatest number, and the least octets of a number.
+// What document 01 sets for each kind: the least and the greatest number, and the least octets of a number.
 ghost use Rattle.std.specs.Prelude.{◌≡◌, pos, neg_ℤ};
 ghost use Rattle.format.specs.Words.{if_any};
-ghost use Rattle.format.specs.Compact.{per_day, start, greatest, padded_to};
+ghost use Rattle.format.specs.Compact.{start, greatest, padded_to};
 ghost use Rattle.values.specs.Meaning.{kind_from};
 
 use values::{Kind, Time};
@@ -26,64 +26,47 @@ const LAST_T_ALONE: i64 = 140_737_488_355_327;
 // The last millisecond of 9999-12-31.
 const LAST_T_BEHIND_OFFSET: i64 = 251_824_463_999_999;
 
-pub fn per_day(kind: Kind) -> i64
-    ensures { result ≡ pos (per_day (kind_from kind)) }
-{
-    if kind.timed() {
-        return MILLIS_PER_DAY as i64;
-    }
-    1
-}
-
+#[tactic(auto, unfolding(format::specs::Compact::start, format::specs::Compact::per_day))]
 pub fn least_number(kind: Kind) -> i64
     ensures { result ≡ neg_ℤ (pos (start (kind_from kind))) }
 {
-    if !kind.dated() {
-        return 0;
+    match kind {
+        Kind::Date | Kind::DateTz => FIRST_DAY,
+        Kind::Time | Kind::TimeTz => 0,
+        Kind::Datetime | Kind::DatetimeTz => FIRST_T,
     }
-    if kind.timed() {
-        return FIRST_T;
-    }
-    FIRST_DAY
 }
 
 // `front`: an offset stands in front.
+#[tactic(auto, unfolding(format::specs::Compact::greatest))]
 pub fn greatest_number(kind: Kind, front: bool) -> i64
     ensures { result ≡ pos (greatest (kind_from kind) front) }
 {
-    if !kind.dated() {
-        return MILLIS_PER_DAY as i64;
+    match kind {
+        Kind::Date | Kind::DateTz => LAST_DAY,
+        Kind::Time | Kind::TimeTz => MILLIS_PER_DAY as i64,
+        Kind::Datetime | Kind::DatetimeTz if front => LAST_T_BEHIND_OFFSET,
+        Kind::Datetime | Kind::DatetimeTz => LAST_T_ALONE,
     }
-    if !kind.timed() {
-        return LAST_DAY;
-    }
-    if front {
-        return LAST_T_BEHIND_OFFSET;
-    }
-    LAST_T_ALONE
 }
 
+#[tactic(auto, unfolding(format::specs::Compact::padded_to))]
 pub fn padded_to(kind: Kind, front: bool) -> usize
     ensures { result ≡ padded_to (kind_from kind) front }
 {
     if !front {
         return 1;
     }
-    if !kind.timed() {
-        return 2;
+    match kind {
+        Kind::Date | Kind::DateTz => 2,
+        Kind::Time | Kind::TimeTz => 3,
+        Kind::Datetime | Kind::DatetimeTz => 5,
     }
-    if kind.dated() {
-        return 5;
-    }
-    3
 }
 
 // The octets of an offset in front.
 pub fn front_octets(front: bool) -> usize
     ensures { result ≡ if_any front 2 }
 {
-    if front {
-        return 2;
-    }
-    0
+    if front { 2 } else { 0 }
 }

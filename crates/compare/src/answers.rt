@@ -1,216 +1,208 @@
-// How a case of writing or reading is answered, in one line.
+// How a case is answered, in one line: after a refusal its number alone, where nothing else is said.
 //   W    the refusal number (0 for none), the count (0 after a refusal), and the whole buffer afterwards in hex
-//   R    the refusal number alone, or `0 kind form digits year month day micros offset`: form 0 text, 1 compact, 2 extended;
-//        digits 0 but for text; a part that the kind lacks is 0
-// `utc` and `schedules` answer the other cases; a line that is none is answered `?`.
-use crate::fields::Number;
-use crate::parse::{Asked, Octets, Writing};
-use crate::{fields, parse};
+//   R    `0 kind form digits year month day micros offset`: form 0 text, 1 compact, 2 extended; digits 0 but for text; a part that the kind lacks is 0
+//   I    `0` and the instant of a stamp
+//   A    `0` and the sum of an instant and a span
+//   D    `0` and the difference of two instants
+//   T    `0 year month day micros offset`, the stamp of an instant at an offset
+//   S    a stamp restated at another offset, as for T
+//   F    full reading: `0 records`, or the refusal number and the place at which the file is refused, 0 for its header
+//   P    the record at a place: `0 channel correction instant start length`
+//   Q    which correction holds: `0 read none`, or `0 read place start length instant correction`
+//   O    manual over plan: `which start length octets`, which of the two files, 0 for the plan, where the part stands in it, and the part in hex, `-` for an empty one
+use crate::cases::{Case, Reader};
 use calendar::Date;
-use show::line;
+use instants::Instant;
+use schedule::{Held, Record, Source};
+use show::Octets;
+use std::{fmt, io};
 use values::{
-    DateTz, Datetime, DatetimeTz, Decoded, Form, Offset, Reading, Settings, Time, TimeTz, Written,
+    DateTz, Datetime, DatetimeTz, Decoded, Form, Kind, Refusal, Settings, Stamp, Time, TimeTz,
+    Value,
 };
 
-// ---- parts of an answer, for `utc` and `schedules` too
+// ---- what a call gave
 
-pub fn unknown(out: &mut [u8]) -> usize {
-    line::octet(out, 0, b'?')
+// `0` and what was asked for, or the refusal number.
+#[derive(Clone, Copy)]
+struct Given<T, E>(Result<T, E>);
+
+impl<T: fmt::Display + Copy, E: Into<u32> + Copy> fmt::Display for Given<T, E> {
+    fn fmt<W: fmt::Write>(&self, f: &mut fmt::Formatter<W>) -> fmt::Result {
+        match self.0 {
+            Ok(given) => write!(f, "0 {given}"),
+            Err(refusal) => {
+                let number: u32 = refusal.into();
+                write!(f, "{number}")
+            }
+        }
+    }
 }
 
-pub fn field(out: &mut [u8], at: usize, n: u64) -> usize {
-    let from = line::octet(out, at, b' ');
-    line::number(out, from, n)
+// `year month day micros offset`
+#[derive(Clone, Copy)]
+struct Parts(Value);
+
+impl fmt::Display for Parts {
+    fn fmt<W: fmt::Write>(&self, f: &mut fmt::Formatter<W>) -> fmt::Result {
+        let Value { date, time, offset } = self.0;
+        let Date { year, month, day } = date;
+        write!(f, "{year} {month} {day} {} {}", time.micros, offset.minutes)
+    }
 }
 
-pub fn signed_field(out: &mut [u8], at: usize, n: i64) -> usize {
-    let from = line::octet(out, at, b' ');
-    line::signed(out, from, n)
+#[derive(Clone, Copy)]
+struct Stamped(Decoded);
+
+impl fmt::Display for Stamped {
+    fn fmt<W: fmt::Write>(&self, f: &mut fmt::Formatter<W>) -> fmt::Result {
+        let decoded = self.0;
+        let kind = u32::from(decoded.kind());
+        let (form, digits) = match decoded.form() {
+            Form::Text(digits) => (0, digits),
+            Form::Compact => (1, 0),
+            Form::Extended => (2, 0),
+        };
+        write!(f, "{kind} {form} {digits} {}", Parts(decoded.value()))
+    }
 }
 
-fn put_date(out: &mut [u8], at: usize, date: Date) -> usize {
-    let after_year = field(out, at, date.year as u64);
-    let after_month = field(out, after_year, date.month as u64);
-    field(out, after_month, date.day as u64)
+#[derive(Clone, Copy)]
+struct Found(Record);
+
+impl fmt::Display for Found {
+    fn fmt<W: fmt::Write>(&self, f: &mut fmt::Formatter<W>) -> fmt::Result {
+        let record = self.0;
+        write!(
+            f,
+            "{} {} {} {} {}",
+            record.channel, record.correction, record.instant.micros, record.start, record.length
+        )
+    }
 }
 
-fn wide(n: i32) -> i64 {
-    n as i64
+#[derive(Clone, Copy)]
+struct Holding(Held);
+
+impl fmt::Display for Holding {
+    fn fmt<W: fmt::Write>(&self, f: &mut fmt::Formatter<W>) -> fmt::Result {
+        let Held { read, latest } = self.0;
+        match latest {
+            None => write!(f, "{read} none"),
+            Some(record) => write!(
+                f,
+                "{read} {} {} {} {} {}",
+                record.place, record.start, record.length, record.instant.micros, record.correction
+            ),
+        }
+    }
 }
 
-// The fields `year month day micros offset`.
-pub fn put_parts(out: &mut [u8], at: usize, date: Date, time: Time, offset: Offset) -> usize {
-    let after_date = put_date(out, at, date);
-    let after_time = field(out, after_date, time.micros);
-    signed_field(out, after_time, wide(offset.minutes))
-}
+// ---- the calls of `stamp`, by kind
 
-// ---- writing
-
-fn write(kind: u64, value: DatetimeTz, settings: Settings, buf: &mut [u8]) -> Written {
-    let date = value.date;
-    let time = value.time;
-    let offset = value.offset;
+fn write(kind: Kind, value: Value, settings: Settings, buf: &mut [u8]) -> Result<usize, Refusal> {
     match kind {
-        0 => stamp::write_date(date, settings, buf),
-        1 => stamp::write_date_tz(DateTz { date, offset }, settings, buf),
-        2 => stamp::write_time(time, settings, buf),
-        3 => stamp::write_time_tz(TimeTz { time, offset }, settings, buf),
-        4 => stamp::write_datetime(Datetime { date, time }, settings, buf),
-        _ => stamp::write_datetime_tz(value, settings, buf),
+        Kind::Date => stamp::write(Date::of(value), settings, buf),
+        Kind::DateTz => stamp::write(DateTz::of(value), settings, buf),
+        Kind::Time => stamp::write(Time::of(value), settings, buf),
+        Kind::TimeTz => stamp::write(TimeTz::of(value), settings, buf),
+        Kind::Datetime => stamp::write(Datetime::of(value), settings, buf),
+        Kind::DatetimeTz => stamp::write(DatetimeTz::of(value), settings, buf),
     }
 }
 
-fn refusal_number(written: Written) -> u64 {
-    match written {
-        Written::Octets(_) => 0,
-        Written::Refused(refusal) => refusal.number() as u64,
-    }
-}
-
-fn count(written: Written) -> u64 {
-    match written {
-        Written::Octets(count) => count as u64,
-        Written::Refused(_) => 0,
-    }
-}
-
-fn put_written(out: &mut [u8], written: Written, buf: &[u8]) -> usize {
-    let after_number = line::number(out, 0, refusal_number(written));
-    let after_count = field(out, after_number, count(written));
-    let from = line::octet(out, after_count, b' ');
-    line::octets(out, from, buf)
-}
-
-// `buf` is the whole room that the case lends.
-fn answer_in(out: &mut [u8], asked: Asked, buf: &mut [u8]) -> usize {
-    let value = asked.value;
-    let settings = asked.settings;
-    let written = write(asked.kind, value, settings, buf);
-    put_written(out, written, buf)
-}
-
-// `parse` lets no more room through: the test is for the proof.
-pub fn answer_writing(out: &mut [u8], case: &[u8]) -> usize {
-    let Writing::Asked(asked) = parse::take_writing(case) else {
-        return unknown(out);
-    };
-    let room = asked.room as usize;
-    if 48 < room {
-        return unknown(out);
-    }
-    let mut buf = [0x5Au8; 48];
-    answer_in(out, asked, &mut buf[0..room])
-}
-
-// ---- reading
-
-fn read(kind: u64, s: &[u8]) -> Reading {
+fn read_kind(kind: Kind, s: &[u8]) -> Result<Decoded, Refusal> {
     match kind {
-        0 => stamp::read_date(s),
-        1 => stamp::read_date_tz(s),
-        2 => stamp::read_time(s),
-        3 => stamp::read_time_tz(s),
-        4 => stamp::read_datetime(s),
-        5 => stamp::read_datetime_tz(s),
-        6 => stamp::read_date_or_date_tz(s),
-        7 => stamp::read_time_or_time_tz(s),
-        _ => stamp::read_datetime_or_datetime_tz(s),
+        Kind::Date => stamp::read::<Date>(s),
+        Kind::DateTz => stamp::read::<DateTz>(s),
+        Kind::Time => stamp::read::<Time>(s),
+        Kind::TimeTz => stamp::read::<TimeTz>(s),
+        Kind::Datetime => stamp::read::<Datetime>(s),
+        Kind::DatetimeTz => stamp::read::<DatetimeTz>(s),
     }
 }
 
-fn form_number(form: Form) -> u64 {
-    match form {
-        Form::Text(_) => 0,
-        Form::Compact => 1,
-        Form::Extended => 2,
+fn read(reader: Reader, s: &[u8]) -> Result<Decoded, Refusal> {
+    match reader {
+        Reader::Of(kind) => read_kind(kind, s),
+        Reader::DateOrDateTz => stamp::read_date_or_date_tz(s),
+        Reader::TimeOrTimeTz => stamp::read_time_or_time_tz(s),
+        Reader::DatetimeOrDatetimeTz => stamp::read_datetime_or_datetime_tz(s),
     }
 }
 
-fn form_digits(form: Form) -> u64 {
-    match form {
-        Form::Text(digits) => digits as u64,
-        Form::Compact => 0,
-        Form::Extended => 0,
+// ---- the cases
+
+fn print<T: fmt::Display + Copy, E: Into<u32> + Copy>(
+    rt: &impl Print,
+    given: Result<T, E>,
+) -> io::Result<()> {
+    rt.println(Given(given))
+}
+
+fn print_written(
+    rt: &impl Print,
+    kind: Kind,
+    value: Value,
+    settings: Settings,
+    lent: &mut [u8],
+) -> io::Result<()> {
+    match write(kind, value, settings, lent) {
+        Ok(count) => println!(rt; "0 {count} {}", Octets(lent)),
+        Err(refusal) => println!(rt; "{} 0 {}", u32::from(refusal), Octets(lent)),
     }
 }
 
-fn put_stamp(
-    out: &mut [u8],
-    kind: u64,
-    form: Form,
-    date: Date,
-    time: Time,
-    offset: Offset,
-) -> usize {
-    let after_number = line::number(out, 0, 0);
-    let after_kind = field(out, after_number, kind);
-    let after_form = field(out, after_kind, form_number(form));
-    let after_digits = field(out, after_form, form_digits(form));
-    put_parts(out, after_digits, date, time, offset)
-}
-
-fn put_decoded(out: &mut [u8], decoded: Decoded) -> usize {
-    let no_date = Date::new(0, 0, 0);
-    let no_time = Time::new(0);
-    let no_offset = Offset::new(0);
-    match decoded {
-        Decoded::Date(answer) => {
-            let date = answer.value;
-            let form = answer.form;
-            return put_stamp(out, 0, form, date, no_time, no_offset);
-        }
-        Decoded::DateTz(answer) => {
-            let value = answer.value;
-            let form = answer.form;
-            let date = value.date;
-            let offset = value.offset;
-            return put_stamp(out, 1, form, date, no_time, offset);
-        }
-        Decoded::Time(answer) => {
-            let time = answer.value;
-            let form = answer.form;
-            return put_stamp(out, 2, form, no_date, time, no_offset);
-        }
-        Decoded::TimeTz(answer) => {
-            let value = answer.value;
-            let form = answer.form;
-            let time = value.time;
-            let offset = value.offset;
-            return put_stamp(out, 3, form, no_date, time, offset);
-        }
-        Decoded::Datetime(answer) => {
-            let value = answer.value;
-            let form = answer.form;
-            let date = value.date;
-            let time = value.time;
-            return put_stamp(out, 4, form, date, time, no_offset);
-        }
-        Decoded::DatetimeTz(answer) => {
-            let value = answer.value;
-            let form = answer.form;
-            let date = value.date;
-            let time = value.time;
-            let offset = value.offset;
-            return put_stamp(out, 5, form, date, time, offset);
-        }
+fn print_full(rt: &impl Print, file: &[u8]) -> io::Result<()> {
+    match schedule::read(file) {
+        Ok(records) => println!(rt; "0 {records}"),
+        Err(fault) => println!(rt; "{} {}", u32::from(fault.refusal), fault.place),
     }
 }
 
-fn put_reading(out: &mut [u8], reading: Reading) -> usize {
-    match reading {
-        Reading::Stamp(decoded) => put_decoded(out, decoded),
-        Reading::Refused(refusal) => line::number(out, 0, refusal.number() as u64),
-    }
-}
-
-pub fn answer_reading(out: &mut [u8], case: &[u8]) -> usize {
-    let Number::Read(kind, after_kind) = fields::take_number(case, 1, 8) else {
-        return unknown(out);
+// Where the part stands is told by its numbers, the octets are those of the part itself.
+fn print_over(
+    rt: &impl Print,
+    plan: &[u8],
+    manual: &[u8],
+    instant: Instant,
+    channel: u32,
+) -> io::Result<()> {
+    let part = schedule::part_over(plan, manual, instant, channel);
+    let octets = schedule::over(plan, manual, instant, channel);
+    let which = match part.source {
+        Source::Plan => 0,
+        Source::Manual => 1,
     };
-    let mut octets = [0u8; 64];
-    let Octets::Read(count) = parse::take_octets(case, after_kind, &mut octets) else {
-        return unknown(out);
-    };
-    put_reading(out, read(kind, parse::first(&octets, count)))
+    println!(rt; "{which} {} {} {}", part.start, part.length, Octets(octets))
+}
+
+pub fn print_answer(rt: &impl Print, case: Case<'_>) -> io::Result<()> {
+    match case {
+        Case::Write {
+            kind,
+            value,
+            settings,
+            lent,
+        } => print_written(rt, kind, value, settings, lent),
+        Case::Read(reader, octets) => print(rt, read(reader, octets).map(Stamped)),
+        Case::InstantOf(stamp) => print(rt, Instant::try_from(stamp).map(|it| it.micros)),
+        Case::Sum(instant, span) => print(rt, instant.add(span).map(|it| it.micros)),
+        Case::Difference(instant, other) => print(rt, instant.difference(other)),
+        Case::StampAt(instant, offset) => print(rt, instant.at(offset).map(|it| Parts(it.parts()))),
+        Case::Restated(stamp, to) => {
+            print(rt, instants::restate(stamp, to).map(|it| Parts(it.parts())))
+        }
+        Case::ReadFile(file) => print_full(rt, file),
+        Case::RecordAt(place, file) => print(rt, schedule::record_at(file, place).map(Found)),
+        Case::Holds(instant, channel, file) => {
+            print(rt, schedule::holds(file, instant, channel).map(Holding))
+        }
+        Case::Over {
+            plan,
+            manual,
+            instant,
+            channel,
+        } => print_over(rt, plan, manual, instant, channel),
+    }
 }

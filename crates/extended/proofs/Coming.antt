@@ -1,37 +1,33 @@
--- What reading comes to, test by test, over the kind: the parts are given as numbers. Assumes nothing.
+-- What reading comes to, part by part, over the kind: a part that is refused refuses the whole, and with all parts found so is the whole.
+-- Assumes nothing.
 use mathlib.Core.Path.{◌≡◌, sym}
-use mathlib.Core.Bool.{true, false}
+use mathlib.Core.Bool.{Bool, true, false}
 use mathlib.Core.List.{List}
-use Prim.Native.Nat.{ℕ, ◌+◌, ◌%◌}
-use lib.IntN.{pos}
+use Prim.Native.Nat.{ℕ, ◌+◌, ◌%◌, ◌≤◌}
+use lib.IntN.{ℤ, pos}
 use lib.Dec.{leb, eqb}
 use lib.ListN.{length}
 use native.Mathlib.Omega.{arith}
+use Rattle.std.specs.Prelude.{Result, Ok, Err}
+use Rattle.std.specs.Result.{IsErrAnd}
 use borrow.Author.Tests.{eq-eqb, ne_eqb, eqb-true, leb-true}
-use Rattle.format.specs.Words.{pick, both, either, accepted, refused, unless}
-use Rattle.format.specs.Calendar.{no_date, last_number, day_of}
+use Rattle.format.specs.Words.{pick, both, either, Outcome, accepted, refused, unless}
+use Rattle.format.specs.Calendar.{Day, no_date, last_number, day_of}
 use Rattle.format.specs.Local.{join}
 use Rattle.format.specs.Values.{Kind, dated, zoned, Value, end_of_day, time_in_range, offset_in_range, extended}
 use Rattle.format.specs.Octets.{unsigned_at}
 use Rattle.format.specs.Extended.{day_width, offset_from, extended_value, read_extended}
-use Rattle.format.specs.Reading.{read_in, read_as}
-use Rattle.format.proofs.Cases.{both_false}
+use Rattle.format.specs.Reading.{answer, read_in, read_as}
+use Rattle.format.proofs.Cases.{both_false, passed, same, failed}
 use Rattle.format.proofs.Dates.{number_date}
-use Rattle.values.specs.Answers.{local_in}
-use Rattle.extended.proofs.Image.{width_dated, width_undated}
+use Rattle.values.specs.declared.refusal.Refusal.{Refusal}
+use Rattle.values.specs.Meaning.{refusal_number}
+use Rattle.values.specs.Answers.{outcome, local_in}
 
--- the length of the octets, the day number and the microseconds, by the kind's flag `dated`
-pub record Stands (k : Kind) (s : List ℕ) (n d m : ℕ) : Type 0 where
-  pub width : 7 + day_width k ≡ n
-  pub day : unsigned_at s 2 (day_width k) ≡ d
-  pub micros : unsigned_at s (2 + day_width k) 5 ≡ m
-
-pub with_day : (k : Kind) (s : List ℕ) → dated k ≡ true → Stands k s 10 (unsigned_at s 2 3) (unsigned_at s 5 5)
-with_day k s d = let w = width_dated k d in record { width = rw w; day = rw w; micros = rw w }
-
-pub without_day : (k : Kind) (s : List ℕ) → dated k ≡ false → Stands k s 7 0 (unsigned_at s 2 5)
-unfolding unsigned_at
-without_day k s d = let w = width_undated k d in record { width = rw w; day = rw w; micros = rw w }
+-- what a `?` hands on of a refusal
+pub handed_on : {T A : Type 0} (f : T → A) (r : Result T Refusal) (e : Refusal) (o : Outcome A) → IsErrAnd r (λ x. x ≡ e) → refused (refusal_number e) ≡ o → outcome f r ≡ o
+handed_on f (Ok t) e o i p = absurd i
+handed_on f (Err x) e o i p = rw i p
 
 -- a plain header's offset
 pub no_offset : (b : ℕ) → true ≡ eqb b 0 → pos 0 ≡ offset_from b
@@ -42,46 +38,93 @@ pub no_offset_fits : (b : ℕ) → true ≡ eqb b 0 → offset_in_range (offset_
 unfolding offset_in_range
 no_offset_fits b e = rw (← no_offset b e)
 
-module _ (k : Kind) (s : List ℕ) (n day micros : ℕ) (p : Stands k s n day micros) where
+-- the number of a refusal at one test
+number : {A : Type 0} (t : Bool) (n m : ℕ) (a : A) → refused n ≡ unless t m (accepted a) → n ≡ m
+number true n m a e = absurd (never_both e)
+  where
+    never_both : refused n ≡ accepted a → ⊥
+    never_both e = let z : ◌≡◌ {A = ℕ} 0 1 = cc in omega arith
+number false n m a e = cc
+
+module _ (k : Kind) (s : List ℕ) where
   abbrev bits : ℕ
   bits = unsigned_at s 0 2 % 4096
 
-  comes : length s ≡ n
-      → read_extended k s
-      ≡ unless (either (zoned k) (eqb bits 0)) 6
-      (unless (both (offset_in_range (offset_from bits)) (both (leb day last_number) (time_in_range micros))) 8
-      (accepted (extended_value k bits day micros)))
-  unfolding read_extended
-  comes l = rw (p.width, p.day, p.micros, eq-eqb (length s) n l)
+  abbrev day : ℕ
+  day = unsigned_at s 2 (day_width k)
 
-  pub wrong_length : (length s ≡ n → ⊥) → refused 5 ≡ read_as k extended s
+  abbrev micros : ℕ
+  micros = unsigned_at s (2 + day_width k) 5
+
+  abbrev plain : Bool
+  plain = either (zoned k) (eqb bits 0)
+
+  abbrev pub header_in : Outcome ℤ
+  header_in = unless plain 6 (unless (offset_in_range (offset_from bits)) 8 (accepted (offset_from bits)))
+
+  abbrev pub time_in : Outcome ℕ
+  time_in = unless (time_in_range micros) 8 (accepted micros)
+
+  abbrev pub date_in : Outcome Day
+  date_in = unless (leb day last_number) 8 (accepted (pick (dated k) (day_of day) no_date))
+
+  pub wrong_length : (length s ≡ 7 + day_width k → ⊥) → refused 5 ≡ read_as k extended s
   unfolding read_extended read_in
-  wrong_length e = rw (p.width, ne_eqb (length s) n e)
+  wrong_length e = rw (ne_eqb (length s) (7 + day_width k) e)
 
-  pub wrong_octet : length s ≡ n → either (zoned k) (eqb bits 0) ≡ false → refused 6 ≡ read_as k extended s
-  unfolding read_in
-  wrong_octet l h = rw (comes l, h)
+  module _ (m : ℕ) (t : accepted m ≡ time_in) where
+    time_tests : (time_in_range micros ≡ true) × (m ≡ micros)
+    time_tests = let p = passed (time_in_range micros) 8 (accepted micros) m (sym t) in (p.0, sym (same p.1))
 
-  pub wrong_offset : length s ≡ n → either (zoned k) (eqb bits 0) ≡ true → offset_in_range (offset_from bits) ≡ false → refused 8 ≡ read_as k extended s
-  unfolding read_in
-  wrong_offset l h o = rw (comes l, h, o)
+    pub time_few : m ≤ end_of_day
+    unfolding time_in_range
+    time_few = let e = leb-true micros end_of_day time_tests.0 in omega (arith, time_tests.1)
 
-  pub wrong_day : length s ≡ n → either (zoned k) (eqb bits 0) ≡ true → leb day last_number ≡ false → refused 8 ≡ read_as k extended s
-  unfolding read_in
-  wrong_day l h d = rw (comes l, h, d, both_false (offset_in_range (offset_from bits)))
+  module _ (l : length s ≡ 7 + day_width k) where
+    comes : read_extended k s
+        ≡ unless plain 6
+        (unless (both (offset_in_range (offset_from bits)) (both (leb day last_number) (time_in_range micros))) 8
+        (accepted (extended_value k bits day micros)))
+    unfolding read_extended
+    comes = rw (eq-eqb (length s) (7 + day_width k) l)
 
-  pub wrong_time : length s ≡ n → either (zoned k) (eqb bits 0) ≡ true → time_in_range micros ≡ false → refused 8 ≡ read_as k extended s
-  unfolding read_in
-  wrong_time l h t = rw (comes l, h, t, both_false (leb day last_number), both_false (offset_in_range (offset_from bits)))
+    pub header_refused : (n : ℕ) → refused n ≡ header_in → refused n ≡ read_as k extended s
+    unfolding read_in
+    header_refused n e = rw comes (go plain (offset_in_range (offset_from bits)) (both (leb day last_number) (time_in_range micros)) (offset_from bits) (extended_value k bits day micros) e)
+      where
+        go : (a b c : Bool) (x : ℤ) (v : Value) → refused n ≡ unless a 6 (unless b 8 (accepted x)) → refused n ≡ answer k extended (unless a 6 (unless (both b c) 8 (accepted v)))
+        go false b c x v e = let p : n ≡ 6 = cc in rw p
+        go true b c x v e = let p : n ≡ 8 = number b n 8 x e in let q : b ≡ false = failed b 8 n x (sym e) in rw (p, q)
 
-  pub found : length s ≡ n → either (zoned k) (eqb bits 0) ≡ true → offset_in_range (offset_from bits) ≡ true → leb day last_number ≡ true → time_in_range micros ≡ true
-      → (v : Value) → v.date ≡ pick (dated k) (day_of day) no_date → v.micros ≡ micros → v.offset ≡ offset_from bits
-      → accepted (record { kind = k; form = extended; value = v }) ≡ read_as k extended s
-  unfolding read_in extended_value
-  found l h o d t v e f g = rw (comes l, h, o, d, t, ← e, ← f, ← g)
+    module _ (o : ℤ) (h : accepted o ≡ header_in) where
+      tests : (plain ≡ true) × (offset_in_range (offset_from bits) ≡ true) × (o ≡ offset_from bits)
+      tests =
+          let p = passed plain 6 (unless (offset_in_range (offset_from bits)) 8 (accepted (offset_from bits))) o (sym h) in
+          let q = passed (offset_in_range (offset_from bits)) 8 (accepted (offset_from bits)) o p.1 in
+          (p.0, q.0, sym (same q.1))
 
-  -- the day number is that of its date
-  pub located_there : length s ≡ n → either (zoned k) (eqb bits 0) ≡ true → offset_in_range (offset_from bits) ≡ true → leb day last_number ≡ true
-      → time_in_range micros ≡ true → dated k ≡ true → accepted (join end_of_day day micros, offset_from bits) ≡ local_in (read_as k extended s)
-  unfolding read_in extended_value
-  located_there l h o d t y = rw (comes l, h, o, d, t, y, (number_date day (omega (arith, leb-true day last_number d))).1)
+      pub time_refused : (n : ℕ) → refused n ≡ time_in → refused n ≡ read_as k extended s
+      unfolding read_in
+      time_refused n e =
+          rw (comes, tests.0, tests.1, failed (time_in_range micros) 8 n micros (sym e), number (time_in_range micros) n 8 micros e, both_false (leb day last_number))
+
+      pub day_refused : leb day last_number ≡ false → refused 8 ≡ read_as k extended s
+      unfolding read_in
+      day_refused d = rw (comes, tests.0, tests.1, d)
+
+      pub date_refused : (n : ℕ) → refused n ≡ date_in → refused n ≡ read_as k extended s
+      date_refused n e =
+          let d = pick (dated k) (day_of day) no_date in
+          rw (number (leb day last_number) n 8 d e) (day_refused (failed (leb day last_number) 8 n d (sym e)))
+
+      module _ (m : ℕ) (t : accepted m ≡ time_in) where
+        pub found : (d : Day) → accepted d ≡ date_in → accepted (record { kind = k; form = extended; value = record { date = d; micros = m; offset = o } }) ≡ read_as k extended s
+        unfolding read_in extended_value
+        found d e =
+            let p = passed (leb day last_number) 8 (accepted (pick (dated k) (day_of day) no_date)) d (sym e) in
+            rw (comes, tests.0, tests.1, (time_tests m t).0, p.0, tests.2, (time_tests m t).1, same p.1)
+
+        -- the day number is that of its date
+        pub located_there : leb day last_number ≡ true → dated k ≡ true → accepted (join end_of_day day m, o) ≡ local_in (read_as k extended s)
+        unfolding read_in extended_value
+        located_there d y = rw (comes, tests.0, tests.1, d, (time_tests m t).0, tests.2, (time_tests m t).1, y, (number_date day (omega (arith, leb-true day last_number d))).1)

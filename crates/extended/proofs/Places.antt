@@ -1,8 +1,9 @@
 -- Where the parts stand in the octets, as words are loaded: an octet and four, or eight for two parts. Assumes nothing.
-use mathlib.Core.Path.{◌≡◌}
+use mathlib.Core.Path.{◌≡◌, ap}
 use mathlib.Core.Logic.{⊎_elim}
 use mathlib.Core.List.{List}
 use Prim.Native.Nat.{ℕ, ◌+◌, ◌*◌, ◌/◌, ◌%◌, ◌<◌}
+use native.Mathlib.Nat.{add_assoc}
 use native.Mathlib.Omega.{arith}
 use lib.Dec.{eqb}
 use lib.ListN.{get_or}
@@ -40,21 +41,14 @@ module _ (s : List ℕ) (o : Octets s) where
           (λ n. rw (ne_eqb (a + b * 256) 128 n, ne_eqb ((a * 256 + b) % 4096) 0 (λ e. n (both-octets a b f ha hb e))))
           (eq_or_ne (a + b * 256) 128)
 
-  -- ---- the microseconds: an octet and four, alone and behind a day number
+  -- ---- the microseconds: an octet and four
 
-  pub low_small : unsigned_at s 3 4 < 4294967296
-  low_small = unsigned_small s 3 4 o
-
-  pub five : get_or s 2 0 * 4294967296 + unsigned_at s 3 4 ≡ unsigned_at s 2 5
+  pub five : (i : ℕ) → get_or s i 0 * 4294967296 + unsigned_at s (i + 1) 4 ≡ unsigned_at s i 5
   unfolding unsigned_at
-  five = omega arith
-
-  pub low_small_behind : unsigned_at s 6 4 < 4294967296
-  low_small_behind = unsigned_small s 6 4 o
-
-  pub five_behind : get_or s 5 0 * 4294967296 + unsigned_at s 6 4 ≡ unsigned_at s 5 5
-  unfolding unsigned_at
-  five_behind = omega arith
+  five i =
+      let at : ℕ → ℕ = λ k. get_or s k 0 in
+      let first : i + 0 ≡ i = omega arith in
+      omega (arith, ap at first, ap at (add_assoc i 1 0), ap at (add_assoc i 1 1), ap at (add_assoc i 1 2), ap at (add_assoc i 1 3))
 
   -- ---- the day number: the first three of eight octets
 

@@ -7,19 +7,18 @@ use native.Mathlib.Omega.{arith}
 use lib.ListN.{length, set}
 use lib.Seq.{sets}
 use borrow.Author.Tests.{leb-true}
-use Rattle.format.specs.Words.{needs, accepted}
+use Rattle.format.specs.Words.{needs, accepted, refused, unless}
 use Rattle.format.specs.Calendar.{is_day}
-use Rattle.format.specs.Values.{Kind, dated, timed, zoned, Value, time_in_range, offset_in_range, in_range, extended}
+use Rattle.format.specs.Values.{Kind, dated, timed, zoned, Value, time_in_range, offset_in_range, rest_in_range, in_range, extended}
 use Rattle.format.specs.Octets.{unsigned_octets}
 use Rattle.format.specs.Extended.{day_width, extended_image}
 use Rattle.format.specs.Writing.{image_in, has_form, encode_in}
-use Rattle.format.proofs.Cases.{both_false}
+use Rattle.format.proofs.Cases.{both_true, both_false, failed}
 use Rattle.format.proofs.Extended.{extended_length}
 use Rattle.octets.proofs.LowFirst.{four_quotients}
 use Rattle.octets.proofs.Turning.{unsigned_over}
 use Rattle.values.specs.Promise.{Left}
 use Rattle.values.proofs.Writes.{refuses, short, stored}
-use Rattle.extended.proofs.Image.{width_dated, width_undated}
 
 -- ---- the ranges
 
@@ -27,49 +26,30 @@ module _ (k : Kind) (v : Value) (lent : List ℕ) where
   outside : in_range k v ≡ false → Left (encode_in k extended v) lent 2 0 lent
   outside e = rw e (refuses 2 lent)
 
-  pub day_outside : dated k ≡ true → is_day v.date ≡ false → Left (encode_in k extended v) lent 2 0 lent
+  pub rest_outside : rest_in_range k v ≡ false → Left (encode_in k extended v) lent 2 0 lent
   unfolding in_range
-  day_outside d e = outside (rw (d, e))
+  rest_outside e = outside (rw (e, both_false (needs (dated k) (is_day v.date))))
 
-  pub time_outside : timed k ≡ true → time_in_range v.micros ≡ false → Left (encode_in k extended v) lent 2 0 lent
+  pub day_outside : (n m : ℕ) → refused n ≡ unless (needs (dated k) (is_day v.date)) 2 (accepted m) → Left (encode_in k extended v) lent 2 0 lent
   unfolding in_range
-  time_outside t e = outside (rw (t, e, both_false (needs (dated k) (is_day v.date))))
+  day_outside n m e = outside (rw (failed (needs (dated k) (is_day v.date)) 2 n m (sym e)))
 
-  pub offset_outside : zoned k ≡ true → offset_in_range v.offset ≡ false → Left (encode_in k extended v) lent 2 0 lent
-  unfolding in_range
-  offset_outside z e =
-      outside (rw (z, e, both_false (needs (timed k) (time_in_range v.micros)), both_false (needs (dated k) (is_day v.date))))
-
-pub micros_fit : (m : ℕ) → time_in_range m ≡ true → m < 1099511627776
+pub micros_fit : (k : Kind) (v : Value) → timed k ≡ true → rest_in_range k v ≡ true → v.micros < 1099511627776
 unfolding time_in_range
-micros_fit m e = omega (arith, leb-true m 86400000000 e)
+micros_fit k v t e = omega (arith, leb-true v.micros 86400000000 (rw t at (both_true (needs (timed k) (time_in_range v.micros)) (needs (zoned k) (offset_in_range v.offset)) e).0))
 
 -- ---- the room, and the image
 
-pub ten : (k : Kind) → dated k ≡ true → 7 + day_width k ≡ 10
-ten k d = rw (width_dated k d)
-
-pub seven : (k : Kind) → dated k ≡ false → 7 + day_width k ≡ 7
-seven k d = rw (width_undated k d)
-
-module _ (k : Kind) (v : Value) (n : ℕ) (w : 7 + day_width k ≡ n)
-    (d : needs (dated k) (is_day v.date) ≡ true) (t : needs (timed k) (time_in_range v.micros) ≡ true) (z : needs (zoned k) (offset_in_range v.offset) ≡ true) where
-  inside : in_range k v ≡ true
-  unfolding in_range
-  inside = rw (d, t, z)
-
+module _ (k : Kind) (v : Value) (d : needs (dated k) (is_day v.date) ≡ true) (e : rest_in_range k v ≡ true) where
   image : encode_in k extended v ≡ accepted (extended_image k v)
-  unfolding image_in has_form
-  image = rw inside
+  unfolding in_range image_in has_form
+  image = rw (d, e)
 
-  count : length (extended_image k v) ≡ n
-  count = extended_length k v ∙ w
+  pub no_room : (n : ℕ) → n ≡ 7 + day_width k → (lent : List ℕ) → length lent < n → Left (encode_in k extended v) lent 4 0 lent
+  no_room n w lent h = rw image (short (extended_image k v) lent (rw (extended_length k v, ← w) h))
 
-  pub no_room : (lent : List ℕ) → length lent < n → Left (encode_in k extended v) lent 4 0 lent
-  no_room lent h = rw image (short (extended_image k v) lent (rw count h))
-
-  pub wrote : (lent left : List ℕ) → n ≤ length lent → left ≡ sets lent 0 (extended_image k v) → Left (encode_in k extended v) lent 0 n left
-  wrote lent left h e = rw image (stored (extended_image k v) lent left n (sym count) (rw count h) e)
+  pub wrote : (n : ℕ) → n ≡ 7 + day_width k → (lent left : List ℕ) → n ≤ length lent → left ≡ sets lent 0 (extended_image k v) → Left (encode_in k extended v) lent 0 n left
+  wrote n w lent left h s = rw image (stored (extended_image k v) lent left n (w ∙ sym (extended_length k v)) (rw (extended_length k v, ← w) h) s)
 
 -- ---- the microseconds as an octet and four; the day number and the microseconds as eight
 

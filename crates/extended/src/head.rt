@@ -16,6 +16,7 @@ const ZONED: u8 = 0b1001;
 // The first octet of a plain header, whose other bits are zero.
 pub const PLAIN_OCTET: u32 = PLAIN as u32 * 16;
 
+#[tactic(auto, unfolding(format::specs::Extended::head_bits))]
 pub fn head_bits(kind: Kind) -> u8
     ensures { result ≡ head_bits (kind_from kind) }
 {
@@ -26,18 +27,14 @@ pub fn head_bits(kind: Kind) -> u8
 fn offset_bits(offset: Offset) -> u32
     ensures { result ≡ mod_f offset.minutes 4096 }
 {
-    let minutes = offset.minutes;
-    (minutes & 0xfff) as u32
+    (offset.minutes & 0xfff) as u32
 }
 
 // A plain header's twelve bits are zero.
 fn twelve_bits(kind: Kind, offset: Offset) -> u32
     ensures { result ≡ if_any (zoned (kind_from kind)) (mod_f offset.minutes 4096) }
 {
-    if kind.zoned() {
-        return offset_bits(offset);
-    }
-    0
+    if kind.zoned() { offset_bits(offset) } else { 0 }
 }
 
 pub fn header(kind: Kind, offset: Offset) -> u16

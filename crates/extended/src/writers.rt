@@ -1,18 +1,35 @@
-// Writing, a kind at a time: the ranges, the room, then the image in two or three stores.
-ghost use Rattle.std.specs.Prelude.{◌≡◌, ◌++◌, ◌<◌, ◌≤◌, length};
+// Writing: the ranges, the room, then the image in two or three stores.
+ghost use Rattle.std.specs.Prelude.{◌≡◌, ◌+◌, ◌++◌, ◌<◌, ◌≤◌, true, length};
 ghost use Rattle.std.proofs.lemmas.List.Edits.{sets};
+ghost use Rattle.format.specs.Words.{needs, if_any, accepted, unless};
+ghost use Rattle.format.specs.Calendar.{is_day, day_number};
 ghost use Rattle.format.specs.Values as format;
 ghost use Rattle.format.specs.Octets.{unsigned_octets};
+ghost use Rattle.format.specs.Extended.{day_width};
 ghost use Rattle.format.specs.Writing.{encode_in};
+ghost use Rattle.calendar.specs.Meaning.{day_from, number_answered};
 ghost use Rattle.values.specs.Meaning.{value_from};
 ghost use Rattle.values.specs.Promise.{Writes};
 
-use crate::{DATETIME_LENGTH, TIME_LENGTH, head};
-use calendar::Numbered;
-use values::{Kind, Refusal, Value, Written};
+use crate::{head, image_length};
+use calendar::Date;
+use values::{Refusal, Stamp, Value};
 
-// Of a Time or a TimeTz: the microseconds are an octet and a word of 4.
-fn put_time_of(buf: &mut [u8], header: u16, micros: u64)
+// The day number, 0 where the kind has no date: no octet is written of it then.
+#[tactic(auto, unfolding(format::specs::Calendar::number_asked))]
+fn day_of<T: Stamp>(date: Date) -> Option<u32>
+    ensures { number_answered result
+        ≡ unless (needs (format.dated T.kind) (is_day (day_from date))) 2
+        (accepted (if_any (format.dated T.kind) (day_number (day_from date)))) }
+{
+    if T::kind().dated() {
+        return calendar::day_number(date);
+    }
+    Some(0)
+}
+
+// Without a day number the microseconds are an octet and a word of 4.
+fn put_time(buf: &mut [u8], header: u16, micros: u64)
     requires { 7 ≤ length buf.old }
     ensures { buf.new ≡ sets buf.old 0 (unsigned_octets 2 header ++ unsigned_octets 5 micros) }
 {
@@ -21,8 +38,8 @@ fn put_time_of(buf: &mut [u8], header: u16, micros: u64)
     octets::put4(buf, 3, (micros % 0x1_0000_0000) as u32);
 }
 
-// Of a Datetime or a DatetimeTz: day number and microseconds are one word of 8.
-fn put_datetime_of(buf: &mut [u8], header: u16, day: u32, micros: u64)
+// Day number and microseconds are one word of 8.
+fn put_datetime(buf: &mut [u8], header: u16, day: u32, micros: u64)
     requires { (10 ≤ length buf.old) × (day < 0x100_0000) × (micros < 0x100_0000_0000) }
     ensures { buf.new ≡ sets buf.old 0 (unsigned_octets 2 header ++ (unsigned_octets 3 day ++ unsigned_octets 5 micros)) }
 {
@@ -30,81 +47,33 @@ fn put_datetime_of(buf: &mut [u8], header: u16, day: u32, micros: u64)
     octets::put8(buf, 2, (day as u64) * 0x100_0000_0000 + micros);
 }
 
-// ---- the four kinds
-
-pub fn write_time(value: Value, buf: &mut [u8]) -> Written
-    ensures { Writes (encode_in format.Time format.extended (value_from value)) buf.old result buf.new }
+#[tactic(auto, unfolding(format::specs::Extended::day_width, format::specs::Octets::unsigned_octets))]
+fn put<T: Stamp>(buf: &mut [u8], header: u16, day: u32, micros: u64)
+    requires { (7 + day_width T.kind ≤ length buf.old) × (day < 0x100_0000) × (micros < 0x100_0000_0000) }
+    ensures { buf.new ≡ sets buf.old 0 (unsigned_octets 2 header ++ (unsigned_octets (day_width T.kind) day ++ unsigned_octets 5 micros)) }
 {
-    let time = value.time;
-    let offset = value.offset;
-    if !time.in_range() {
-        return Written::Refused(Refusal::Value);
+    if T::kind().dated() {
+        put_datetime(buf, header, day, micros);
+    } else {
+        put_time(buf, header, micros);
     }
-    if buf.len() < TIME_LENGTH {
-        return Written::Refused(Refusal::Buffer);
-    }
-    put_time_of(buf, head::header(Kind::Time, offset), time.micros);
-    Written::Octets(TIME_LENGTH)
 }
 
-pub fn write_time_tz(value: Value, buf: &mut [u8]) -> Written
-    ensures { Writes (encode_in format.TimeTz format.extended (value_from value)) buf.old result buf.new }
+pub fn write<T: Stamp>(value: Value, buf: &mut [u8]) -> Result<usize, Refusal>
+    requires { format.timed T.kind ≡ true }
+    ensures { Writes (encode_in T.kind format.extended (value_from value)) buf.old result buf.new }
 {
-    let time = value.time;
-    let offset = value.offset;
-    if !time.in_range() {
-        return Written::Refused(Refusal::Value);
+    if !value.rest_in_range(T::kind()) {
+        return Err(Refusal::Value);
     }
-    if !offset.in_range() {
-        return Written::Refused(Refusal::Value);
-    }
-    if buf.len() < TIME_LENGTH {
-        return Written::Refused(Refusal::Buffer);
-    }
-    put_time_of(buf, head::header(Kind::TimeTz, offset), time.micros);
-    Written::Octets(TIME_LENGTH)
-}
-
-pub fn write_datetime(value: Value, buf: &mut [u8]) -> Written
-    ensures { Writes (encode_in format.Datetime format.extended (value_from value)) buf.old result buf.new }
-{
-    let time = value.time;
-    let offset = value.offset;
-    if !time.in_range() {
-        return Written::Refused(Refusal::Value);
-    }
-    let Numbered::Day(day) = calendar::day_number(value.date) else {
-        return Written::Refused(Refusal::Value);
+    let Some(day) = day_of::<T>(value.date) else {
+        return Err(Refusal::Value);
     };
-    if buf.len() < DATETIME_LENGTH {
-        return Written::Refused(Refusal::Buffer);
+    let length = image_length::<T>();
+    if buf.len() < length {
+        return Err(Refusal::Buffer);
     }
-    put_datetime_of(buf, head::header(Kind::Datetime, offset), day, time.micros);
-    Written::Octets(DATETIME_LENGTH)
-}
-
-pub fn write_datetime_tz(value: Value, buf: &mut [u8]) -> Written
-    ensures { Writes (encode_in format.DatetimeTz format.extended (value_from value)) buf.old result buf.new }
-{
-    let time = value.time;
-    let offset = value.offset;
-    if !time.in_range() {
-        return Written::Refused(Refusal::Value);
-    }
-    if !offset.in_range() {
-        return Written::Refused(Refusal::Value);
-    }
-    let Numbered::Day(day) = calendar::day_number(value.date) else {
-        return Written::Refused(Refusal::Value);
-    };
-    if buf.len() < DATETIME_LENGTH {
-        return Written::Refused(Refusal::Buffer);
-    }
-    put_datetime_of(
-        buf,
-        head::header(Kind::DatetimeTz, offset),
-        day,
-        time.micros,
-    );
-    Written::Octets(DATETIME_LENGTH)
+    let header = head::header(T::kind(), value.offset);
+    put::<T>(buf, header, day, value.time.micros);
+    Ok(length)
 }

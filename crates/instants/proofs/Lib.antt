@@ -1,6 +1,5 @@
 pub mod Sizes
-pub mod Modular
 pub mod Clocks
 pub mod Tests
-pub mod Readings
 pub mod OneAnswer
+pub mod Wrapped

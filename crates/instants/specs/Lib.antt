@@ -1,4 +1,3 @@
 pub mod Meaning
-pub mod Modulo
 pub mod Steps
 pub mod Calls

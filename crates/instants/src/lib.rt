@@ -1,21 +1,18 @@
 // Instants: a DatetimeTz as one number, so that stamps of different sites can be compared, moved in time and restated at another offset.
 #![tactic(auto)]
 
-ghost use Rattle.std.specs.Prelude.{◌≡◌, ◌≤◌, true, pos, ◌+ℤ◌, nat_lt};
+ghost use Rattle.std.specs.Prelude.{◌≡◌, ◌≤◌, ◌<◌, true, pos, unsigned_abs, nat_lt};
 ghost use Rattle.format.specs.Words.{accepted, pick, unless};
 ghost use Rattle.format.specs.Calendar.{last_number};
 ghost use Rattle.format.specs.Local.{join};
 ghost use Rattle.format.specs.Values.{end_of_day, offset_in_range};
 ghost use Rattle.moments.specs.Instant.{ahead, is_instant, end_of_years, stamp_of};
 ghost use Rattle.instants.specs.Meaning.{refusal_number, stated};
-ghost use Rattle.instants.specs.Modulo.{modulo};
 ghost use Rattle.instants.specs.Calls.{RefusalNumber, InstantNew, InstantInRange, InstantOf, InstantAdd, InstantDifference, InstantAt, Restates};
 
 mod within_month;
 
-use crate::within_month::Near;
-use calendar::{Dated, Numbered};
-use values::{DatetimeTz, Offset, Time};
+use values::{DatetimeTz, Kind, Offset, Stamp, Time};
 
 // Microseconds from 0001-01-01T00:00 UTC. Any number: a call refuses one that no stamp has.
 #[derive(Clone, Copy)]
@@ -32,111 +29,67 @@ pub enum Refusal {
     NotRepresentable,
 }
 
-// What a stamp's instant and a sum answer.
-#[derive(Clone, Copy)]
-pub enum Found {
-    Instant(Instant),
-    Refused(Refusal),
-}
-
-// How far two instants are apart.
-#[derive(Clone, Copy)]
-pub enum Apart {
-    Micros(i64),
-    Refused(Refusal),
-}
-
-// A stamp stated at an offset.
-#[derive(Clone, Copy)]
-pub enum Stated {
-    Stamp(DatetimeTz),
-    Refused(Refusal),
-}
-
 const MINUTE: i64 = 60_000_000;
 
-// From the least instant to the greatest.
-const WIDTH: u64 = (Instant::GREATEST - Instant::LEAST) as u64;
+impl From<Refusal> for u32 {
+    ghost from_gives = { RefusalNumber };
 
-impl Refusal {
-    pub fn number(self) -> u32
-        ensures { RefusalNumber self result }
-    {
-        match self {
+    fn from(refusal: Refusal) -> u32 {
+        match refusal {
             Refusal::Value => 2,
             Refusal::NotRepresentable => 9,
         }
     }
 }
 
-// ---- sums that may not fit
-
-// A number modulo 2^64. `!x` is -x - 1.
-fn modulo(x: i64) -> u64
-    ensures { result ≡ modulo x }
-{
-    if x < 0 {
-        return u64::MAX - (!x) as u64;
-    }
-    x as u64
-}
-
-// A sum modulo 2^64: one machine addition.
-fn sum_modulo(a: i64, b: i64) -> u64
-    ensures { result ≡ modulo (a +ℤ b) }
-{
-    std::num::wrapping_add_u64(modulo(a), modulo(b))
-}
-
 // ---- parts of an instant
 
-// An offset in microseconds.
+// An offset in microseconds: less than a day, either way.
+#[tactic(auto, using(std::proofs::lemmas::Int::ints, moments::proofs::Stamps::ahead_size), unfolding(moments::specs::Instant::ahead))]
 fn ahead_of_utc(offset: Offset) -> i64
     requires { offset_in_range offset.minutes ≡ true }
-    ensures { result ≡ ahead offset.minutes }
+    ensures value { result ≡ ahead offset.minutes }
+    ensures bound { unsigned_abs result < end_of_day }
 {
-    let minutes = offset.minutes;
-    minutes as i64 * MINUTE
+    offset.minutes as i64 * MINUTE
 }
 
-// The local reading of a day and a time; 24:00 is the next day's start.
+// The local reading of a day and a time, at most the end of the years; 24:00 is the next day's start.
 fn local_reading(day: u32, micros: u64) -> i64
     requires { (day ≤ last_number) × (micros ≤ end_of_day) }
-    ensures { result ≡ pos (join end_of_day day micros) }
+    ensures value { result ≡ pos (join end_of_day day micros) }
+    ensures bound { unsigned_abs result ≤ end_of_years }
 {
     (day as u64 * Time::END_OF_DAY + micros) as i64
 }
 
 // The stamp of a local reading, which may be any number. There is one where the reading's day is one of the calendar's.
-fn stamp_of(local: u64, offset: Offset) -> Stated
+#[tactic(auto, using(crate::proofs::Tests::date_known, crate::proofs::Tests::past_years), unfolding(moments::specs::Instant::stamp_of))]
+fn stamp_of(local: u64, offset: Offset) -> Result<DatetimeTz, Refusal>
     ensures { stated result ≡ unless (nat_lt local end_of_years) 9 (accepted (stamp_of local offset.minutes)) }
 {
-    let Dated::Date(date) = calendar::date_of((local / Time::END_OF_DAY) as u32) else {
-        return Stated::Refused(Refusal::NotRepresentable);
-    };
+    let day = (local / Time::END_OF_DAY) as u32;
+    let date = calendar::date_of(day).ok_or(Refusal::NotRepresentable)?;
     let time = Time::new(local % Time::END_OF_DAY);
-    Stated::Stamp(DatetimeTz { date, time, offset })
+    Ok(DatetimeTz { date, time, offset })
 }
 
 // ---- the calls: all 2 before any 9
 
-pub fn instant_of(stamp: DatetimeTz) -> Found
-    ensures { InstantOf stamp result }
-{
-    let date = stamp.date;
-    let time = stamp.time;
-    let offset = stamp.offset;
-    let Numbered::Day(day) = calendar::day_number(date) else {
-        return Found::Refused(Refusal::Value);
-    };
-    if !time.in_range() {
-        return Found::Refused(Refusal::Value);
+impl TryFrom<DatetimeTz> for Instant {
+    type Error = Refusal;
+
+    ghost try_from_gives = { InstantOf };
+
+    #[tactic(auto, using(std::proofs::lemmas::Int::ints, crate::proofs::Tests::stamp_tests), unfolding(format::specs::Values::time_in_range))]
+    fn try_from(stamp: DatetimeTz) -> Result<Instant, Refusal> {
+        let day = calendar::day_number(stamp.date).ok_or(Refusal::Value)?;
+        if !stamp.parts().rest_in_range(Kind::DatetimeTz) {
+            return Err(Refusal::Value);
+        }
+        let micros = local_reading(day, stamp.time.micros) - ahead_of_utc(stamp.offset);
+        Ok(Instant { micros })
     }
-    if !offset.in_range() {
-        return Found::Refused(Refusal::Value);
-    }
-    let micros = local_reading(day, time.micros) - ahead_of_utc(offset);
-    Found::Instant(Instant { micros })
 }
 
 impl Instant {
@@ -152,46 +105,37 @@ impl Instant {
     }
 
     // Whether some stamp has it.
+    #[tactic(auto, using(std::proofs::lemmas::Int::ints), unfolding(moments::specs::Instant::is_instant))]
     pub fn in_range(self) -> bool
         ensures { InstantInRange self result }
     {
-        let micros = self.micros;
-        if micros < Instant::LEAST {
-            return false;
-        }
-        micros <= Instant::GREATEST
+        Instant::LEAST <= self.micros && self.micros <= Instant::GREATEST
     }
 
-    // The sum is counted from the least instant, modulo 2^64. An instant so counted is at most WIDTH, and what is added is within 2^63: below the least instant
-    // the sum wraps far beyond WIDTH, and above the greatest it is beyond WIDTH as it is.
-    pub fn add(self, micros: i64) -> Found
+    // The sum may wrap: that of an instant and any number of 64 bits then lies far beyond the limits, and so is no instant.
+    #[tactic(auto, using(crate::proofs::Wrapped::sum_in, crate::proofs::Wrapped::sum_is), unfolding(moments::specs::Calls::add))]
+    pub fn add(self, micros: i64) -> Result<Instant, Refusal>
         ensures { InstantAdd self micros result }
     {
-        let start = self.micros;
         if !self.in_range() {
-            return Found::Refused(Refusal::Value);
+            return Err(Refusal::Value);
         }
-        let sum = sum_modulo(start - Instant::LEAST, micros);
-        if WIDTH < sum {
-            return Found::Refused(Refusal::NotRepresentable);
+        let sum = Instant::new(self.micros.wrapping_add(micros));
+        if !sum.in_range() {
+            return Err(Refusal::NotRepresentable);
         }
-        let micros = sum as i64 + Instant::LEAST;
-        Found::Instant(Instant { micros })
+        Ok(sum)
     }
 
     // This one less the other.
-    pub fn difference(self, other: Instant) -> Apart
+    #[tactic(auto, using(std::proofs::lemmas::Int::ints, crate::proofs::Sizes::instant_small), unfolding(moments::specs::Calls::difference))]
+    pub fn difference(self, other: Instant) -> Result<i64, Refusal>
         ensures { InstantDifference self other result }
     {
-        let micros = self.micros;
-        let less = other.micros;
-        if !self.in_range() {
-            return Apart::Refused(Refusal::Value);
+        if !self.in_range() || !other.in_range() {
+            return Err(Refusal::Value);
         }
-        if !other.in_range() {
-            return Apart::Refused(Refusal::Value);
-        }
-        Apart::Micros(micros - less)
+        Ok(self.micros - other.micros)
     }
 
     // What a number without a stamp is refused with.
@@ -199,37 +143,36 @@ impl Instant {
         ensures { refusal_number result ≡ pick (is_instant self.micros) 9 2 }
     {
         if self.in_range() {
-            return Refusal::NotRepresentable;
+            Refusal::NotRepresentable
+        } else {
+            Refusal::Value
         }
-        Refusal::Value
     }
 
     // Its stamp at an offset, never at 24:00. A local reading within the years is that of an instant, so that only a number with no stamp is tested. The
     // reading is worked out modulo 2^64, as the number may be any: one that does not fit or is below 0 wraps far beyond the years.
-    pub fn at(self, offset: Offset) -> Stated
+    #[tactic(auto, using(crate::proofs::Wrapped::at_stamp, crate::proofs::Wrapped::at_none, moments::proofs::Restating::at_bad_offset))]
+    pub fn at(self, offset: Offset) -> Result<DatetimeTz, Refusal>
         ensures { InstantAt self offset result }
     {
-        let micros = self.micros;
         if !offset.in_range() {
-            return Stated::Refused(Refusal::Value);
+            return Err(Refusal::Value);
         }
-        let local = sum_modulo(micros, ahead_of_utc(offset));
-        let Stated::Stamp(stamp) = stamp_of(local, offset) else {
-            return Stated::Refused(self.no_stamp());
-        };
-        Stated::Stamp(stamp)
+        let local = self
+            .micros
+            .wrapping_add(ahead_of_utc(offset))
+            .cast_unsigned();
+        stamp_of(local, offset).map_err(|_| self.no_stamp())
     }
 }
 
 // The same instant at another offset, never at 24:00.
-pub fn restate(stamp: DatetimeTz, to: Offset) -> Stated
+#[tactic(auto, using(crate::proofs::Tests::restated_at, crate::proofs::Tests::not_restated))]
+pub fn restate(stamp: DatetimeTz, to: Offset) -> Result<DatetimeTz, Refusal>
     ensures { Restates stamp to result }
 {
-    if let Near::Stamp(near) = within_month::restate(stamp, to) {
-        return Stated::Stamp(near);
+    if let Some(near) = within_month::restate(stamp, to) {
+        return Ok(near);
     }
-    let Found::Instant(instant) = instant_of(stamp) else {
-        return Stated::Refused(Refusal::Value);
-    };
-    instant.at(to)
+    Instant::try_from(stamp)?.at(to)
 }

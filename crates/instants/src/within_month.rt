@@ -9,19 +9,12 @@ ghost use Rattle.instants.specs.Steps.{two_days, five_days, Restated};
 
 use crate::ahead_of_utc;
 use calendar::Date;
-use values::{DatetimeTz, Offset, Time};
-
-#[derive(Clone, Copy)]
-pub enum Near {
-    // Restated, in the month that it was in.
-    Stamp(DatetimeTz),
-    // It is in another month, or something is out of range.
-    Elsewhere,
-}
+use values::{DatetimeTz, Kind, Offset, Stamp, Time};
 
 const TWO_DAYS: i64 = 172_800_000_000;
 
 // What a clock at the other offset reads, from the start of the day two days before the stamp's: two offsets are less than two days apart, so it is not below 0.
+#[tactic(auto, using(std::proofs::lemmas::Int::ints))]
 fn reads(micros: u64, from: Offset, to: Offset) -> u64
     requires { (micros ≤ end_of_day) × (offset_in_range from.minutes ≡ true) × (offset_in_range to.minutes ≡ true) }
     ensures { (pos result ≡ pos (two_days + micros) -ℤ ahead from.minutes +ℤ ahead to.minutes) × (result < five_days) }
@@ -37,39 +30,27 @@ fn whole_days(micros: u64) -> u64
     micros / 8_192 * 13_343_999 / 140_737_488_355_328
 }
 
-pub fn restate(stamp: DatetimeTz, to: Offset) -> Near
+// Nothing where it is in another month, or something is out of range.
+pub fn restate(stamp: DatetimeTz, to: Offset) -> Option<DatetimeTz>
     ensures { Restated result (restate (datetime_tz_value stamp) to.minutes) }
 {
-    let date = stamp.date;
-    let time = stamp.time;
-    let offset = stamp.offset;
-    if !date.in_range() {
-        return Near::Elsewhere;
+    if !stamp.parts().in_range(Kind::DatetimeTz) || !to.in_range() {
+        return None;
     }
-    if !time.in_range() {
-        return Near::Elsewhere;
-    }
-    if !offset.in_range() {
-        return Near::Elsewhere;
-    }
-    if !to.in_range() {
-        return Near::Elsewhere;
-    }
-    let read = reads(time.micros, offset, to);
+    let read = reads(stamp.time.micros, stamp.offset, to);
     let days = whole_days(read);
     // Two more than the day of the month there.
-    let day = date.day as u64 + days;
+    let day = stamp.date.day as u64 + days;
     if day < 3 {
-        return Near::Elsewhere;
+        return None;
     }
-    let date = Date::new(date.year, date.month, (day - 2) as u32);
+    let date = Date::new(stamp.date.year, stamp.date.month, (day - 2) as u32);
     if !date.in_range() {
-        return Near::Elsewhere;
+        return None;
     }
-    let time = Time::new(read - days * Time::END_OF_DAY);
-    Near::Stamp(DatetimeTz {
+    Some(DatetimeTz {
         date,
-        time,
+        time: Time::new(read - days * Time::END_OF_DAY),
         offset: to,
     })
 }

@@ -5,7 +5,7 @@
 --     asked_ended, asked_faulty       the question is the walk up to its instant, and the last record of its channel among those passed
 use mathlib.Core.Path.{◌≡◌, sym, ap, ◌∙◌}
 use mathlib.Core.Logic.{⊎_elim}
-use mathlib.Core.Bool.{true}
+use mathlib.Core.Bool.{true, false}
 use mathlib.Core.List.{List}
 use Prim.Native.Nat.{ℕ, zero, suc, ◌-◌, ◌≤◌, ◌<◌}
 use native.Mathlib.Omega.{arith}
@@ -14,25 +14,22 @@ use lib.Signed.{le_z}
 use Rattle.format.specs.Words.{accepted, refused}
 use Rattle.format.specs.Octets.{Octets}
 use Rattle.format.proofs.Cases.{never, lt_or_le}
-use Rattle.card.specs.Header.{twelve}
+use Rattle.card.specs.Header.{twelve, header_good}
 use Rattle.card.specs.Records.{instant_at, record_at, records_from, in_file}
 use Rattle.card.specs.Step.{before_at, channel_good}
 use Rattle.card.specs.Reading.{Walked, taken, fault, walk_file, records, refused_at, numbered, full_reading, record_asked}
-use Rattle.card.specs.Question.{none_yet, holds, later, held_by, last_of, held_in_file, question, records_read}
+use Rattle.card.specs.Question.{later, held_by, last_of, held_in_file, question}
 use Rattle.card.proofs.Exactly.{described_good, accepted_exactly, file_fault}
 use Rattle.card.proofs.Walking.{records_length}
-use Rattle.card.proofs.Asking.{reads_so, faulty_so, answer_is, bad_header, bad_record, Came, came}
+use Rattle.card.proofs.Asking.{reads_so, faulty_so, answer_is, bad_header as asked_bad_header, bad_record, Came, came}
 use Rattle.card.proofs.Asking as ways
 use Rattle.card.proofs.Greatest.{greatest_asked, not_above, up_to_greatest}
 use Rattle.card.proofs.Limits.{record_at_place}
-use Rattle.instants.specs.declared.Instant.{Instant}
+use Rattle.std.specs.Prelude.{Option, Some, None, Err, ok_or}
 use Rattle.schedule.specs.declared.Refusal.{Refusal}
-use Rattle.schedule.specs.declared.Record.{Record as Given}
-use Rattle.schedule.specs.declared.Held.TheVariants as A
+use Rattle.schedule.specs.declared.header.Regions.{Regions}
 use Rattle.schedule.specs.declared.walk.Ended.{Ended}
-use Rattle.schedule.specs.Meaning.{refusal_number, record_from}
-use Rattle.schedule.specs.Calls.{AsksFile}
-use Rattle.schedule.specs.Steps.{refused_ask, ended, faulty, ending, Stands, EndsBy, held_at, last_place}
+use Rattle.schedule.specs.Steps.{HeaderRead, ended, faulty, ending, Stands, EndsBy, held_at, last_place}
 use Rattle.schedule.proofs.Endings.{ended_same}
 use Rattle.schedule.proofs.Finding.{asked_refused, held_last, held_before}
 
@@ -140,19 +137,13 @@ module _ (s : List ℕ) (t : ℤ) (c : ℕ) where
       go (ways.channel b) = never (sym b ∙ g)
       go (ways.header a b) =
           let x = faulty_same (sym (ap (ending 0) (file_fault twelve s (later t) b)) ∙ e) in
-          bad_header twelve s t c a b ∙ ap refused x.1
+          asked_bad_header twelve s t c a b ∙ ap refused x.1
       go (ways.bad k n a b d) =
           let x = faulty_same (sym (ap (ending 0) (faulty_so twelve s t c k n b d)) ∙ e) in
           bad_record twelve s t c k n a b d ∙ ap refused x.1
 
--- ---- in the words of the promise
+-- ---- the header, where its reader's answer is asked for
 
-module _ (s : List ℕ) (i : Instant) (c : ℕ) where
-  pub asks_refused : (f : Refusal) → question twelve s i.micros c ≡ refused (refusal_number f) → AsksFile s i c (refused_ask f)
-  asks_refused f e = record { answer = sym e; count = sym (ap records_read e) }
-
-  pub asks_none : (n : ℕ) → question twelve s i.micros c ≡ accepted (record { read = n; held = none_yet }) → AsksFile s i c (record { read = n; held = A.NoneYet })
-  asks_none n e = record { answer = sym e; count = sym (ap records_read e) }
-
-  pub asks_record : (n : ℕ) (r : Given) → question twelve s i.micros c ≡ accepted (record { read = n; held = holds (record_from r) }) → AsksFile s i c (record { read = n; held = A.Record r })
-  asks_record n r e = record { answer = sym e; count = sym (ap records_read e) }
+pub bad_header : (s : List ℕ) (r : Option Regions) (f e : Refusal) → Err f ≡ ok_or r e → HeaderRead s r → (header_good twelve s ≡ false) × (f ≡ e)
+bad_header s None f e x h = (h, cc)
+bad_header s (Some g) f e x h = absurd (let z : ◌≡◌ {A = ℕ} 0 1 = cc in omega arith)

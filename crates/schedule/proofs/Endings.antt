@@ -22,11 +22,10 @@ use Rattle.card.specs.Reading.{Walked, taken, fault, joined, walk, walk_file}
 use Rattle.card.specs.Question.{later}
 use Rattle.card.proofs.Exactly.{file_walk, file_fault}
 use Rattle.card.proofs.Turns.{walk_end, walk_turn}
-use Rattle.schedule.specs.declared.Refusal.{Refusal}
 use Rattle.schedule.specs.declared.walk.Taken.{Taken}
 use Rattle.schedule.specs.declared.walk.Ended.{Ended}
-use Rattle.schedule.specs.declared.walk.Walk.{Walk}
-use Rattle.schedule.specs.declared.walk.Walk.TheVariants as W
+use Rattle.std.specs.Prelude.{Result, Ok, Err}
+use Rattle.schedule.specs.declared.Fault.{Fault}
 use Rattle.schedule.specs.Steps.{taken as record_of, alone, GoodAlone, ended, faulty, ending, Passed, Stands, Runs, Walks}
 use Rattle.schedule.proofs.Walking.{low, walk_low, taken_is, taken_instant, alone_good, above_least}
 
@@ -38,9 +37,9 @@ module _ (s : List ℕ) (t : ℤ) where
   end-front o e = ap (ending 0) (walk_low s o (later t) (count_of s) ∙ sym (file_walk twelve s (later t) e))
 
   -- a run from the first record on is the walk
-  pub runs_walks : Octets s → header_good twelve s ≡ true → (r : Walk) → Runs s t 0 low r → Walks s t r
-  runs_walks o e (W.Ended x) h = let n : count_of s - 0 ≡ count_of s = omega arith in (h.0, sym (end-front o e) ∙ rw n at h.1)
-  runs_walks o e (W.Refused f p) h = let n : count_of s - 0 ≡ count_of s = omega arith in sym (end-front o e) ∙ rw n at h
+  pub runs_walks : Octets s → header_good twelve s ≡ true → (r : Result Ended Fault) → Runs s t 0 low r → Walks s t r
+  runs_walks o e (Ok x) h = let n : count_of s - 0 ≡ count_of s = omega arith in (h.0, sym (end-front o e) ∙ rw n at h.1)
+  runs_walks o e (Err f) h = let n : count_of s - 0 ≡ count_of s = omega arith in sym (end-front o e) ∙ rw n at h
 
   pub end_bad_header : header_good twelve s ≡ false → ending 0 (walk_file twelve s (later t)) ≡ faulty 0 13
   end_bad_header e = ap (ending 0) (file_fault twelve s (later t) e)
@@ -136,8 +135,8 @@ module _ (s : List ℕ) (o : Octets s) (i : ℕ) (l : i < count_of s) (g : GoodA
   unfolding record_at
   alone-ends = end_stop s (negsuc 9223372036854775807) (count_of s) i (alone s i) (record_at twelve s i) l g (ap not (above_least s o i g))
 
-  pub alone_instant : (e : Ended) → Runs s (negsuc 9223372036854775807) i (alone s i) (W.Ended e) → e.instant ≡ instant_at twelve s i
+  pub alone_instant : (e : Ended) → Runs s (negsuc 9223372036854775807) i (alone s i) (Ok e) → e.instant ≡ instant_at twelve s i
   alone_instant e h = h.0.instant i (omega arith) (ended_same (sym h.1 ∙ alone-ends))
 
-  pub alone_never : {A : Type 0} (f : Refusal) (p : ℕ) → Runs s (negsuc 9223372036854775807) i (alone s i) (W.Refused f p) → A
-  alone_never f p h = let z = sym h ∙ alone-ends in absurd (let y : ◌≡◌ {A = ℕ} 0 1 = cc in omega arith)
+  pub alone_never : {A : Type 0} (f : Fault) → Runs s (negsuc 9223372036854775807) i (alone s i) (Err f) → A
+  alone_never f h = let z = sym h ∙ alone-ends in absurd (let y : ◌≡◌ {A = ℕ} 0 1 = cc in omega arith)

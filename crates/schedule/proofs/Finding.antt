@@ -20,7 +20,9 @@ use Rattle.card.specs.Reading.{refused_at, full_reading, record_asked}
 use Rattle.card.specs.Question.{Held, none_yet, holds, held_by, last_from, last_of, held_in_file}
 use Rattle.card.proofs.Exactly.{header_told}
 use Rattle.schedule.specs.Meaning.{record_from}
-use Rattle.schedule.specs.Steps.{fields_in, shown, held_at, last_place}
+use Rattle.std.specs.Prelude.{Some, None}
+use Rattle.schedule.specs.declared.Record.{Record as Given}
+use Rattle.schedule.specs.Steps.{fields_in, shown, held_at, last_place, Latest}
 
 pub asked_refused : (s : List ℕ) (p q m : ℕ) → full_reading twelve s ≡ refused_at q m → record_asked twelve s p ≡ refused m
 unfolding record_asked
@@ -110,3 +112,11 @@ module _ (s : List ℕ) where
     held_before m e =
         last-behind (held_by t c) none_yet 0 m m (omega arith)
         ∙ ap (λ b. pick b (holds (record_at twelve s m)) (last_of (held_by t c) (records_from twelve s 0 m))) (later-asked m e)
+
+-- ---- the last of a channel, as it stands in the file
+
+pub latest_none : (s : List ℕ) (c n : ℕ) → last_place s c n ≡ 0 → Latest s c n None
+latest_none s c n e = rw e
+
+pub latest_some : (s : List ℕ) (c n p : ℕ) (r : Given) → 0 < p → last_place s c n ≡ p → record_from r ≡ in_file twelve s (record_at twelve s (p - 1)) → Latest s c n (Some r)
+latest_some s c n p r l e h = rw e (held_shown s p (record_from r) l h)

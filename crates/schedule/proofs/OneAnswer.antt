@@ -16,19 +16,16 @@ use Rattle.card.specs.Question.{Held as FileHeld, none_yet, holds, Asked as File
 use Rattle.card.specs.Over.{Source as FileSource, plan, manual, Part as FilePart}
 use Rattle.schedule.specs.declared.Refusal.{Refusal}
 use Rattle.schedule.specs.declared.Refusal.TheVariants as R
-use Rattle.schedule.specs.declared.FullReading.{FullReading}
-use Rattle.schedule.specs.declared.FullReading.TheVariants as F
+use Rattle.std.specs.Prelude.{Option, Some, None, Result, Ok, Err}
+use Rattle.values.specs.declared.refusal.Refusal.{Refusal as StampRefusal}
+use Rattle.schedule.specs.declared.Fault.{Fault}
 use Rattle.schedule.specs.declared.Record.{Record}
-use Rattle.schedule.specs.declared.Found.{Found}
-use Rattle.schedule.specs.declared.Found.TheVariants as D
 use Rattle.schedule.specs.declared.Held.{Held}
-use Rattle.schedule.specs.declared.Held.TheVariants as H
-use Rattle.schedule.specs.declared.Asked.{Asked}
 use Rattle.schedule.specs.declared.parts.Source.{Source}
 use Rattle.schedule.specs.declared.parts.Source.TheVariants as S
 use Rattle.schedule.specs.declared.parts.Part.{Part}
-use Rattle.schedule.specs.Meaning.{refusal_number, full_reading, found, held_from, source_from, part_from}
-use Rattle.schedule.specs.Calls.{RefusalNumber, ReadsFile, FindsRecord, AsksFile, ChoosesPart, HandsBack}
+use Rattle.schedule.specs.Meaning.{refusal_number, full_reading, found, held_from, asked, source_from, part_from}
+use Rattle.schedule.specs.Calls.{RefusalNumber, RefusalOfStamp, RefusalOfFault, ReadsFile, FindsRecord, AsksFile, ChoosesPart, HandsBack}
 
 refusal_of : ℕ → Refusal
 refusal_of n = pick (eqb n 13) R.Header (pick (eqb n 14) R.Record (pick (eqb n 15) R.Order (R.Base (values.refusal_of n))))
@@ -47,41 +44,45 @@ refusal_back R.Header = refl
 refusal_back R.Record = refl
 refusal_back R.Order = refl
 
-reading_of : FileReading → FullReading
-reading_of (records n) = F.Records n
-reading_of (refused_at p m) = F.Refused (refusal_of m) p
+reading_of : FileReading → Result ℕ Fault
+reading_of (records n) = Ok n
+reading_of (refused_at p m) = Err (record { refusal = refusal_of m; place = p })
 
-reading_back : (r : FullReading) → reading_of (full_reading r) ≡ r
+reading_back : (r : Result ℕ Fault) → reading_of (full_reading r) ≡ r
 unfolding reading_of
-reading_back (F.Records n) = refl
-reading_back (F.Refused f p) = ap (λ (x : Refusal). F.Refused x p) (refusal_back f)
+reading_back (Ok n) = refl
+reading_back (Err f) = ap (λ (x : Refusal). Err (record { refusal = x; place = f.place })) (refusal_back f.refusal)
 
 record_of : FileRecord → Record
 record_of r =
     record { place = r.place; start = r.start; length = r.size; channel = r.channel; correction = r.correction; instant = record { micros = r.instant } }
 
-found_of : Outcome FileRecord → Found
-found_of (accepted r) = D.Record (record_of r)
-found_of (refused n) = D.Refused (refusal_of n)
+found_of : Outcome FileRecord → Result Record Refusal
+found_of (accepted r) = Ok (record_of r)
+found_of (refused n) = Err (refusal_of n)
 
-found_back : (r : Found) → found_of (found r) ≡ r
+found_back : (r : Result Record Refusal) → found_of (found r) ≡ r
 unfolding found_of record_of
-found_back (D.Record r) = refl
-found_back (D.Refused f) = ap D.Refused (refusal_back f)
+found_back (Ok r) = refl
+found_back (Err f) = ap Err (refusal_back f)
 
-held_of : FileHeld → Held
-held_of none_yet = H.NoneYet
-held_of (holds r) = H.Record (record_of r)
+held_of : FileHeld → Option Record
+held_of none_yet = None
+held_of (holds r) = Some (record_of r)
 
-asked_of : Outcome FileAsked → ℕ → Asked
-asked_of (accepted a) n = record { read = n; held = held_of a.held }
-asked_of (refused m) n = record { read = n; held = H.Refused (refusal_of m) }
+held_back : (x : Option Record) → held_of (held_from x) ≡ x
+unfolding held_of record_of
+held_back None = refl
+held_back (Some r) = refl
 
-asked_back : (n : ℕ) (h : Held) → asked_of (held_from n h) n ≡ record { read = n; held = h }
-unfolding asked_of held_of record_of
-asked_back n H.NoneYet = refl
-asked_back n (H.Record r) = refl
-asked_back n (H.Refused f) = ap (λ (x : Refusal). record { read = n; held = H.Refused x }) (refusal_back f)
+asked_of : Outcome FileAsked → Result Held Refusal
+asked_of (accepted a) = Ok (record { read = a.read; latest = held_of a.held })
+asked_of (refused m) = Err (refusal_of m)
+
+asked_back : (r : Result Held Refusal) → asked_of (asked r) ≡ r
+unfolding asked_of
+asked_back (Ok h) = ap (λ (x : Option Record). Ok (record { read = h.read; latest = x })) (held_back h.latest)
+asked_back (Err f) = ap Err (refusal_back f)
 
 source_of : FileSource → Source
 source_of plan = S.Plan
@@ -102,6 +103,12 @@ part_back q = ap (λ (x : Source). record { source = x; start = q.start; length 
 pub one_number : (f : Refusal) → OneAnswer (RefusalNumber f)
 one_number f = equal_one _
 
+pub one_of_stamp : (f : StampRefusal) → OneAnswer (RefusalOfStamp f)
+one_of_stamp f = equal_one _
+
+pub one_of_fault : (f : Fault) → OneAnswer (RefusalOfFault f)
+one_of_fault f = equal_one _
+
 pub one_read : (s : List ℕ) → OneAnswer (ReadsFile s)
 one_read s = meaning_one full_reading reading_of reading_back _
 
@@ -109,8 +116,7 @@ pub one_record_at : (s : List ℕ) (p : ℕ) → OneAnswer (FindsRecord s p)
 one_record_at s p = meaning_one found found_of found_back _
 
 pub one_holds : (s : List ℕ) (i : Instant) (c : ℕ) → OneAnswer (AsksFile s i c)
-one_holds s i c a b p q =
-    sym (asked_back a.read a.held) ∙ ap₂ asked_of (p.answer ∙ sym q.answer) (p.count ∙ sym q.count) ∙ asked_back b.read b.held
+one_holds s i c = meaning_one asked asked_of asked_back _
 
 pub one_part_over : (p m : List ℕ) (i : Instant) (c : ℕ) → OneAnswer (ChoosesPart p m i c)
 one_part_over p m i c = meaning_one part_from part_of part_back _

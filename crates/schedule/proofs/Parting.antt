@@ -1,6 +1,5 @@
 -- Manual over plan: from what holds in the two files to the part, and from the part in numbers to the part itself. Assumes nothing.
---     beside_refused                     beside a refused plan the manual schedule has no say
---     chooses_no_channel, chooses_nothing, chooses_chosen     the part in numbers
+--     chooses_no_channel, plan_refused, manual_refused, chooses_chosen     the part in numbers
 --     within_plan, within_manual         it lies in its file
 --     hands_plan, hands_manual           the part itself
 use mathlib.Core.Path.{◌≡◌, refl, sym, subst, ap, ap₂, ◌∙◌}
@@ -14,36 +13,21 @@ use Rattle.card.specs.Header.{twelve}
 use Rattle.card.specs.Step.{channel_good}
 use Rattle.format.specs.Words.{Outcome, accepted, refused}
 use Rattle.card.specs.Question.{Asked as FileAsked, question}
-use Rattle.card.specs.Over.{of_two, Part as FilePart, nothing, chosen_of, handed_back}
+use Rattle.card.specs.Over.{of_two, Part as FilePart, nothing, chosen, chosen_of, handed_back}
 use Rattle.card.proofs.Asking.{bad_channel}
 use Rattle.card.proofs.Over.{part_within}
 use Rattle.schedule.specs.declared.Refusal.{Refusal}
-use Rattle.schedule.specs.declared.Held.{Held}
-use Rattle.schedule.specs.declared.Held.TheVariants as H
+use Rattle.std.specs.Prelude.{Option, Result, Ok, Err}
+use Rattle.schedule.specs.declared.Record.{Record}
 use Rattle.schedule.specs.declared.parts.Source.TheVariants as S
 use Rattle.schedule.specs.declared.parts.Part.{Part}
 use Rattle.schedule.specs.Meaning.{refusal_number, held_from, part_from}
-use Rattle.schedule.specs.Steps.{HeldIn}
+use Rattle.schedule.specs.Steps.{held_asked, HeldIn}
 use Rattle.schedule.specs.Calls.{ChoosesPart, PartOf, HandsBack}
-
--- how many records were read has no say
-counts : (n k : ℕ) (h g : Held) → chosen_of (held_from n h) (held_from k g) ≡ chosen_of (held_from 0 h) (held_from 0 g)
-counts n k (H.Record r) (H.Record q) = refl
-counts n k (H.Record r) H.NoneYet = refl
-counts n k (H.Record r) (H.Refused f) = refl
-counts n k H.NoneYet (H.Record q) = refl
-counts n k H.NoneYet H.NoneYet = refl
-counts n k H.NoneYet (H.Refused f) = refl
-counts n k (H.Refused f) (H.Record q) = refl
-counts n k (H.Refused f) H.NoneYet = refl
-counts n k (H.Refused f) (H.Refused g) = refl
 
 refused_nothing : (n : ℕ) (o : Outcome FileAsked) → nothing ≡ chosen_of (refused n) o
 refused_nothing n (accepted b) = refl
 refused_nothing n (refused k) = refl
-
-pub beside_refused : (f : Refusal) (h g : Held) → h ≡ H.Refused f → nothing ≡ chosen_of (held_from 0 h) (held_from 0 g)
-beside_refused f h g e = refused_nothing (refusal_number f) (held_from 0 g) ∙ sym (ap (λ (x : Held). chosen_of (held_from 0 x) (held_from 0 g)) e)
 
 module _ (p m : List ℕ) (i : Instant) (c : ℕ) where
   -- a bad channel, or a refused plan
@@ -54,12 +38,18 @@ module _ (p m : List ℕ) (i : Instant) (c : ℕ) where
   pub chooses_no_channel : (q : Part) → channel_good c ≡ false → part_from q ≡ nothing → ChoosesPart p m i c q
   chooses_no_channel q g h = refused-first 2 q (bad_channel twelve p i.micros c g) h
 
-  pub chooses_nothing : (k : Held) (f : Refusal) (q : Part) → HeldIn p i.micros c k → k ≡ H.Refused f → part_from q ≡ nothing → ChoosesPart p m i c q
-  chooses_nothing k f q x e h = refused-first (refusal_number f) q (sym x.1 ∙ ap (held_from x.0) e) h
+  pub plan_refused : (k : Result (Option Record) Refusal) (f : Refusal) (q : Part) → HeldIn p i.micros c k → k ≡ Err f → part_from q ≡ nothing → ChoosesPart p m i c q
+  plan_refused k f q x e h = refused-first (refusal_number f) q (sym x.1 ∙ ap (held_asked x.0) e) h
 
-  pub chooses_chosen : (k l : Held) (q : Part) → HeldIn p i.micros c k → HeldIn m i.micros c l → part_from q ≡ chosen_of (held_from 0 k) (held_from 0 l) → ChoosesPart p m i c q
+  pub manual_refused : (k l : Result (Option Record) Refusal) (r : Option Record) (f : Refusal) (q : Part)
+      → HeldIn p i.micros c k → HeldIn m i.micros c l → k ≡ Ok r → l ≡ Err f → part_from q ≡ nothing → ChoosesPart p m i c q
   unfolding handed_back
-  chooses_chosen k l q x y e = e ∙ sym (counts x.0 y.0 k l) ∙ ap₂ chosen_of x.1 y.1
+  manual_refused k l r f q x y d e h = h ∙ ap₂ chosen_of (sym (ap (held_asked x.0) d) ∙ x.1) (sym (ap (held_asked y.0) e) ∙ y.1)
+
+  pub chooses_chosen : (k l : Result (Option Record) Refusal) (r t : Option Record) (q : Part)
+      → HeldIn p i.micros c k → HeldIn m i.micros c l → k ≡ Ok r → l ≡ Ok t → part_from q ≡ chosen (held_from r) (held_from t) → ChoosesPart p m i c q
+  unfolding handed_back
+  chooses_chosen k l r t q x y d e h = h ∙ ap₂ chosen_of (sym (ap (held_asked x.0) d) ∙ x.1) (sym (ap (held_asked y.0) e) ∙ y.1)
 
   within : (q : Part) → ChoosesPart p m i c q → q.start + q.length ≤ length (of_two (part_from q).source p m)
   within q h = subst (λ (x : FilePart). x.start + x.size ≤ length (of_two x.source p m)) (sym h) (part_within twelve p m i.micros c)

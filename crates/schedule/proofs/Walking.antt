@@ -27,8 +27,7 @@ use Rattle.card.proofs.Stepping.{step_good, good_step, instant_is}
 use Rattle.card.proofs.Limits.{stamp_octets_lem}
 use Rattle.schedule.specs.declared.Refusal.{Refusal}
 use Rattle.schedule.specs.declared.walk.Taken.{Taken}
-use Rattle.schedule.specs.declared.walk.Stepped.{Stepped}
-use Rattle.schedule.specs.declared.walk.Stepped.TheVariants as S
+use Rattle.std.specs.Prelude.{Result, Ok, Err}
 use Rattle.schedule.specs.Meaning.{refusal_number}
 use Rattle.schedule.specs.Steps.{taken, stepped, alone, GoodAlone}
 use Rattle.schedule.proofs.Stepping.{fields_small}
@@ -83,10 +82,10 @@ module _ (s : List ℕ) (o : Octets s) where
       go false q l = refl
 
 -- what a step answered
-pub step_took : (s : List ℕ) (i : ℕ) (b : FileBefore) (t : Taken) (r : Stepped) → r ≡ S.Taken t → stepped i r ≡ step twelve s i b → step twelve s i b ≡ accepted (taken i t)
+pub step_took : (s : List ℕ) (i : ℕ) (b : FileBefore) (t : Taken) (r : Result Taken Refusal) → r ≡ Ok t → stepped i r ≡ step twelve s i b → step twelve s i b ≡ accepted (taken i t)
 step_took s i b t r e h = sym h ∙ ap (stepped i) e
 
-pub step_bad : (s : List ℕ) (i : ℕ) (b : FileBefore) (f : Refusal) (r : Stepped) → r ≡ S.Refused f → stepped i r ≡ step twelve s i b → step twelve s i b ≡ refused (refusal_number f)
+pub step_bad : (s : List ℕ) (i : ℕ) (b : FileBefore) (f : Refusal) (r : Result Taken Refusal) → r ≡ Err f → stepped i r ≡ step twelve s i b → step twelve s i b ≡ refused (refusal_number f)
 step_bad s i b f r e h = sym h ∙ ap (stepped i) e
 
 pub taken_is : (s : List ℕ) (i : ℕ) (b : FileBefore) (t : Taken) → step twelve s i b ≡ accepted (taken i t) → taken i t ≡ record_at twelve s i

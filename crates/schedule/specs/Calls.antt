@@ -1,24 +1,28 @@
 -- What each public call promises, whatever it is given: the legend. A contract cites the name, and so does the theorem of one answer
 -- (proofs/OneAnswer). `card/specs/Reading.antt`, and `Question.antt` and `Over.antt` there, say what each comes to.
 --
---   RefusalNumber f r     `Refusal::number`: 2, 5 to 8, or 13 to 15
+--   RefusalNumber f r     `u32::from(refusal)`: 2, 5 to 8, or 13 to 15
+--   RefusalOfStamp f r    `Refusal::from(refusal)`, of one of document 01's: itself
+--   RefusalOfFault f r    `Refusal::from(fault)`: the refusal without its place
 --   ReadsFile s r         `read`: the number of records, or the first refusal and its place
 --   FindsRecord s p r     `record_at`: the record at the place p, from one; the file's refusal; or 2
 --   AsksFile s i c r      `holds`: what holds on the channel c at the instant i, with the number of records read; 2, or the refusal of the header or a record read
 --   ChoosesPart p m i c r `part_over`: the part of the plan p or of the manual schedule m that the channel c and the instant i give, in numbers
 --   PartOf s a n r        r is n octets of the lent file s from a on: these octets, in the memory of s, at their place there
 --   HandsBack p m i c r   `over`: r is that part, of the one of the lent files p and m that it is a part of
-use Rattle.std.specs.Prelude.{ℕ, ◌+◌, ◌≡◌, List, length, take, drop}
+use Rattle.std.specs.Prelude.{ℕ, ◌+◌, ◌≡◌, List, length, take, drop, Result}
 use Rattle.std.specs.Borrow.{Bor}
 use Rattle.instants.specs.declared.Instant.{Instant}
 use Rattle.card.specs.Header.{twelve}
 use Rattle.card.specs.Reading as card
-use Rattle.card.specs.Question.{question, records_read}
+use Rattle.card.specs.Question.{question}
 use Rattle.card.specs.Over.{of_two, handed_back}
+use Rattle.values.specs.declared.refusal.Refusal.{Refusal as StampRefusal}
 use Rattle.schedule.specs.declared.Refusal.{Refusal}
-use Rattle.schedule.specs.declared.FullReading.{FullReading}
-use Rattle.schedule.specs.declared.Found.{Found}
-use Rattle.schedule.specs.declared.Asked.{Asked}
+use Rattle.schedule.specs.declared.Refusal.TheVariants as R
+use Rattle.schedule.specs.declared.Fault.{Fault}
+use Rattle.schedule.specs.declared.Record.{Record}
+use Rattle.schedule.specs.declared.Held.{Held}
 use Rattle.schedule.specs.declared.parts.Part.{Part}
 use Rattle.schedule.specs.Meaning.{refusal_number, full_reading, found, asked, part_from}
 
@@ -26,18 +30,25 @@ use Rattle.schedule.specs.Meaning.{refusal_number, full_reading, found, asked, p
 abbrev pub RefusalNumber : Refusal → ℕ → Type 0
 RefusalNumber f r = r ≡ refusal_number f
 
+-- a record's stamp is refused with it
+abbrev pub RefusalOfStamp : StampRefusal → Refusal → Type 0
+RefusalOfStamp f r = r ≡ R.Base f
+
+-- without its place
+abbrev pub RefusalOfFault : Fault → Refusal → Type 0
+RefusalOfFault f r = r ≡ f.refusal
+
 -- full reading
-abbrev pub ReadsFile : List ℕ → FullReading → Type 0
+abbrev pub ReadsFile : List ℕ → Result ℕ Fault → Type 0
 ReadsFile s r = full_reading r ≡ card.full_reading twelve s
 
 -- the record at a place
-abbrev pub FindsRecord : List ℕ → ℕ → Found → Type 0
+abbrev pub FindsRecord : List ℕ → ℕ → Result Record Refusal → Type 0
 FindsRecord s p r = found r ≡ card.record_asked twelve s p
 
--- which correction holds; "a refusal carries 0"
-pub record AsksFile (s : List ℕ) (i : Instant) (c : ℕ) (r : Asked) : Type 0 where
-  pub answer : asked r ≡ question twelve s i.micros c
-  pub count : r.read ≡ records_read (question twelve s i.micros c)
+-- which correction holds; a refusal carries no number of records
+abbrev pub AsksFile : List ℕ → Instant → ℕ → Result Held Refusal → Type 0
+AsksFile s i c r = asked r ≡ question twelve s i.micros c
 
 -- manual over plan, in numbers
 abbrev pub ChoosesPart : List ℕ → List ℕ → Instant → ℕ → Part → Type 0

@@ -18,10 +18,11 @@
 --   Walks s t r        what one from the front of a file with a right header answers
 --   EndsBy s e         what is known of the records passed, whatever the run was for
 --   last_place s c n   the place of the last record of the channel c among the first n, from one
+--   FoundLast s c n r  r is that place, or none
 --   held_at s p        what holds, by its place
---   refused_ask f      the question's answer that is a refusal
---   HeldIn s t c h     h is what the question answers, whatever the count
-use Rattle.std.specs.Prelude.{ℕ, zero, suc, ◌+◌, ◌-◌, ◌*◌, ◌≤◌, ◌<◌, ◌≡◌, Bool, true, false, List, ℤ, negsuc, nat_abs, leb, eqb, length}
+--   Latest s c n r     r is that record, or none
+--   HeldIn s t c r     r is what the question answers, whatever the count
+use Rattle.std.specs.Prelude.{ℕ, zero, suc, ◌+◌, ◌-◌, ◌*◌, ◌≤◌, ◌<◌, ◌≡◌, Bool, true, false, List, ℤ, negsuc, nat_abs, leb, eqb, length, Option, Some, None, Result, Ok, Err}
 use Rattle.std.specs.Int.Signed.{le_z}
 use Rattle.format.specs.Words.{pick, both, Outcome, accepted, refused}
 use Rattle.format.specs.Values.{Answer}
@@ -32,25 +33,16 @@ use Rattle.card.specs.Records.{start_at, length_at, channel_at, correction_at, i
 use Rattle.card.specs.Step.{at, Before as FileBefore, channel_good, greatest_correction, placed, step}
 use Rattle.card.specs.Reading.{Walked, fault, walk, walk_file}
 use Rattle.card.specs.Reading as card
-use Rattle.card.specs.Question.{Held, none_yet, holds, later, question}
+use Rattle.card.specs.Question.{Held, none_yet, holds, Asked, later, held_in_file, question}
 use Rattle.schedule.specs.declared.Record.{Record}
 use Rattle.schedule.specs.declared.Refusal.{Refusal}
-use Rattle.schedule.specs.declared.Held.{Held as GivenHeld}
-use Rattle.schedule.specs.declared.Held.TheVariants as A
-use Rattle.schedule.specs.declared.Asked.{Asked}
+use Rattle.schedule.specs.declared.Fault.{Fault}
+use Rattle.values.specs.declared.refusal.Refusal.{Refusal as StampRefusal}
 use Rattle.schedule.specs.declared.header.Regions.{Regions}
-use Rattle.schedule.specs.declared.header.Header.{Header}
-use Rattle.schedule.specs.declared.header.Header.TheVariants as H
 use Rattle.schedule.specs.declared.fields.Fields.{Fields}
-use Rattle.schedule.specs.declared.stamps.Timed.{Timed}
-use Rattle.schedule.specs.declared.stamps.Timed.TheVariants as T
 use Rattle.schedule.specs.declared.walk.Before.{Before}
 use Rattle.schedule.specs.declared.walk.Taken.{Taken}
-use Rattle.schedule.specs.declared.walk.Stepped.{Stepped}
-use Rattle.schedule.specs.declared.walk.Stepped.TheVariants as S
 use Rattle.schedule.specs.declared.walk.Ended.{Ended}
-use Rattle.schedule.specs.declared.walk.Walk.{Walk}
-use Rattle.schedule.specs.declared.walk.Walk.TheVariants as W
 use Rattle.schedule.specs.Meaning.{refusal_number, held_from}
 
 -- ---- the header
@@ -61,9 +53,9 @@ pub record Says (s : List ℕ) (g : Regions) : Type 0 where
   pub stamps : g.stamps ≡ stamps_start twelve s
   pub octets : g.octets ≡ stamp_octets s
 
-abbrev pub HeaderRead : List ℕ → Header → Type 0
-HeaderRead s (H.Good g) = Says s g
-HeaderRead s H.Bad = header_good twelve s ≡ false
+abbrev pub HeaderRead : List ℕ → Option Regions → Type 0
+HeaderRead s (Some g) = Says s g
+HeaderRead s None = header_good twelve s ≡ false
 
 -- ---- a record
 
@@ -86,9 +78,9 @@ abbrev pub instant_in : Outcome Answer → Outcome ℤ
 instant_in (accepted a) = accepted (instant_of a.value)
 instant_in (refused n) = refused n
 
-abbrev pub timed : Timed → Outcome ℤ
-timed (T.At i) = accepted i
-timed (T.Refused f) = refused (values.refusal_number f)
+abbrev pub timed : Result ℤ StampRefusal → Outcome ℤ
+timed (Ok i) = accepted i
+timed (Err f) = refused (values.refusal_number f)
 
 -- ---- from record to record
 
@@ -106,9 +98,9 @@ taken i t =
       instant = t.instant;
     }
 
-abbrev pub stepped : ℕ → Stepped → Outcome FileRecord
-stepped i (S.Taken t) = accepted (taken i t)
-stepped i (S.Refused f) = refused (refusal_number f)
+abbrev pub stepped : ℕ → Result Taken Refusal → Outcome FileRecord
+stepped i (Ok t) = accepted (taken i t)
+stepped i (Err f) = refused (refusal_number f)
 
 -- ---- the whole file
 
@@ -156,13 +148,13 @@ pub record Stands (s : List ℕ) (t : ℤ) (i : ℕ) (e : Ended) : Type 0 where
   pub last : (j : ℕ) → i ≤ j → e.passed ≡ suc j → e.last ≡ instant_at twelve s j
   pub instant : (j : ℕ) → i ≤ j → e.read ≡ suc j → e.instant ≡ instant_at twelve s j
 
-abbrev pub Runs : List ℕ → ℤ → ℕ → FileBefore → Walk → Type 0
-Runs s t i b (W.Ended e) = Stands s t i e × (ending i (walk twelve s (later t) i (count_of s - i) b) ≡ ended e.read)
-Runs s t i b (W.Refused f p) = ending i (walk twelve s (later t) i (count_of s - i) b) ≡ faulty p (refusal_number f)
+abbrev pub Runs : List ℕ → ℤ → ℕ → FileBefore → Result Ended Fault → Type 0
+Runs s t i b (Ok e) = Stands s t i e × (ending i (walk twelve s (later t) i (count_of s - i) b) ≡ ended e.read)
+Runs s t i b (Err f) = ending i (walk twelve s (later t) i (count_of s - i) b) ≡ faulty f.place (refusal_number f.refusal)
 
-abbrev pub Walks : List ℕ → ℤ → Walk → Type 0
-Walks s t (W.Ended e) = Stands s t 0 e × (ending 0 (walk_file twelve s (later t)) ≡ ended e.read)
-Walks s t (W.Refused f p) = ending 0 (walk_file twelve s (later t)) ≡ faulty p (refusal_number f)
+abbrev pub Walks : List ℕ → ℤ → Result Ended Fault → Type 0
+Walks s t (Ok e) = Stands s t 0 e × (ending 0 (walk_file twelve s (later t)) ≡ ended e.read)
+Walks s t (Err f) = ending 0 (walk_file twelve s (later t)) ≡ faulty f.place (refusal_number f.refusal)
 
 -- what is shown needs, of any run from the front
 pub record EndsBy (s : List ℕ) (e : Ended) : Type 0 where
@@ -176,14 +168,22 @@ unfoldable pub last_place : List ℕ → ℕ → ℕ → ℕ
 last_place s c zero = 0
 last_place s c (suc i) = pick (eqb (channel_at twelve s i) c) (suc i) (last_place s c i)
 
+abbrev pub FoundLast : List ℕ → ℕ → ℕ → Option ℕ → Type 0
+FoundLast s c n None = last_place s c n ≡ 0
+FoundLast s c n (Some p) = (0 < p) × (last_place s c n ≡ p)
+
 -- by its place from one, of which 0 is none
 abbrev pub held_at : List ℕ → ℕ → Held
 held_at s zero = none_yet
 held_at s (suc i) = holds (record_at twelve s i)
 
--- an answer that is a refusal
-abbrev pub refused_ask : Refusal → Asked
-refused_ask f = record { read = 0; held = A.Refused f }
+-- as it stands in the file
+abbrev pub Latest : List ℕ → ℕ → ℕ → Option Record → Type 0
+Latest s c n r = held_from r ≡ held_in_file twelve s (held_at s (last_place s c n))
 
-abbrev pub HeldIn : List ℕ → ℤ → ℕ → GivenHeld → Type 0
-HeldIn s t c h = (k : ℕ) × (held_from k h ≡ question twelve s t c)
+abbrev pub held_asked : ℕ → Result (Option Record) Refusal → Outcome Asked
+held_asked n (Ok r) = accepted (record { read = n; held = held_from r })
+held_asked n (Err f) = refused (refusal_number f)
+
+abbrev pub HeldIn : List ℕ → ℤ → ℕ → Result (Option Record) Refusal → Type 0
+HeldIn s t c r = (k : ℕ) × (held_asked k r ≡ question twelve s t c)

@@ -75,24 +75,19 @@ impl Fields {
         requires { (self.start < 4294967296) × (self.length < 65536) }
         ensures { result ≡ self.start + self.length }
     {
-        let start = self.start;
-        let length = self.length;
-        start + length
+        self.start + self.length
     }
 
     pub(crate) fn are_right(self, ended: usize, octets: usize, last: bool) -> bool
         requires { (self.start < 4294967296) × (self.length < 65536) }
         ensures { result ≡ right self ended octets last }
     {
-        let start = self.start;
-        let channel = self.channel;
-        let correction = self.correction;
-        if !is_channel(channel) {
+        if !is_channel(self.channel) {
             return false;
         }
-        if !is_correction(correction) {
+        if !is_correction(self.correction) {
             return false;
         }
-        is_placed(start, self.end(), ended, octets, last)
+        is_placed(self.start, self.end(), ended, octets, last)
     }
 }

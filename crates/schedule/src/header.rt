@@ -1,7 +1,7 @@
 // The header, and the two regions that it says.
 ghost use Rattle.schedule.specs.Steps.{HeaderRead};
 
-use crate::FullReading;
+use crate::MOST_RECORDS;
 
 // What a right header says: the number of records, where the stamp octets start in the file, and how many there are.
 #[derive(Clone, Copy)]
@@ -11,12 +11,6 @@ pub(crate) struct Regions {
     pub octets: usize,
 }
 
-#[derive(Clone, Copy)]
-pub(crate) enum Header {
-    Good(Regions),
-    Bad,
-}
-
 // Where the records start.
 pub(crate) const RECORDS: usize = 16;
 
@@ -24,33 +18,33 @@ pub(crate) const RECORDS: usize = 16;
 pub(crate) const RECORD: usize = 12;
 
 // The sums are of 64 bits, and what is added has 32: none wraps.
-pub(crate) fn read(file: &[u8]) -> Header
+pub(crate) fn read(file: &[u8]) -> Option<Regions>
     ensures { HeaderRead file.now result }
 {
     if file.len() < RECORDS {
-        return Header::Bad;
+        return None;
     }
     let records = octets::take4(file, 0);
-    if FullReading::MOST_RECORDS < records {
-        return Header::Bad;
+    if MOST_RECORDS < records {
+        return None;
     }
     if octets::take4(file, 4) as usize != RECORDS {
-        return Header::Bad;
+        return None;
     }
     let stamps = RECORDS + RECORD * records as usize;
     if octets::take4(file, 12) as usize != stamps {
-        return Header::Bad;
+        return None;
     }
     let octets = octets::take4(file, 8) as usize;
     if stamps + octets != file.len() {
-        return Header::Bad;
+        return None;
     }
     if records == 0 {
         if octets != 0 {
-            return Header::Bad;
+            return None;
         }
     }
-    Header::Good(Regions {
+    Some(Regions {
         records,
         stamps,
         octets,

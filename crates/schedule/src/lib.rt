@@ -2,9 +2,7 @@
 // call takes files of any content and length.
 #![tactic(auto)]
 
-ghost use Rattle.std.specs.Prelude.{◌≡◌};
-ghost use Rattle.schedule.specs.Steps.{refused_ask};
-ghost use Rattle.schedule.specs.Calls.{RefusalNumber, ReadsFile, FindsRecord, AsksFile};
+ghost use Rattle.schedule.specs.Calls.{RefusalNumber, RefusalOfStamp, RefusalOfFault, ReadsFile, FindsRecord, AsksFile};
 
 mod fields;
 mod header;
@@ -12,8 +10,6 @@ mod parts;
 mod stamps;
 mod walk;
 
-use crate::header::Header;
-use crate::walk::Walk;
 use instants::Instant;
 pub use parts::{Part, Source, over, part_over};
 
@@ -30,11 +26,11 @@ pub enum Refusal {
     Order,
 }
 
-// What full reading answers: the number of records, or why the file is refused and the place of the record at which it is, from one; 0 is the header.
+// Why a file is refused, and the place of the record at which it is, from one; 0 is the header.
 #[derive(Clone, Copy)]
-pub enum FullReading {
-    Records(u32),
-    Refused(Refusal, u32),
+pub struct Fault {
+    pub refusal: Refusal,
+    pub place: u32,
 }
 
 // A correction of one channel, from an instant on.
@@ -52,31 +48,15 @@ pub struct Record {
     pub instant: Instant,
 }
 
-// What is found at a place.
+// What holds on a channel at an instant: the last record of the channel at or before it, or none yet; and the number of records read, which is the place of
+// the first record later than the instant, from one, or all.
 #[derive(Clone, Copy)]
-pub enum Found {
-    Record(Record),
-    Refused(Refusal),
-}
-
-// What holds on a channel at an instant: the last record of the channel at or before it, or none yet.
-#[derive(Clone, Copy)]
-pub enum Held {
-    NoneYet,
-    Record(Record),
-    Refused(Refusal),
-}
-
-// With the number of records read: the place of the first record later than the instant, from one, or all; and 0 with a refusal.
-#[derive(Clone, Copy)]
-pub struct Asked {
+pub struct Held {
     pub read: u32,
-    pub held: Held,
+    pub latest: Option<Record>,
 }
 
-impl FullReading {
-    pub const MOST_RECORDS: u32 = 1_000;
-}
+pub const MOST_RECORDS: u32 = 1_000;
 
 impl Record {
     // Channels are 1 to 16.
@@ -86,12 +66,12 @@ impl Record {
     pub const GREATEST_CORRECTION: i64 = 1_000_000;
 }
 
-impl Refusal {
-    pub fn number(self) -> u32
-        ensures { RefusalNumber self result }
-    {
-        match self {
-            Refusal::Base(refusal) => refusal.number(),
+impl From<Refusal> for u32 {
+    ghost from_gives = { RefusalNumber };
+
+    fn from(refusal: Refusal) -> u32 {
+        match refusal {
+            Refusal::Base(base) => base.into(),
             Refusal::Header => 13,
             Refusal::Record => 14,
             Refusal::Order => 15,
@@ -99,74 +79,64 @@ impl Refusal {
     }
 }
 
-// Reads the file from the front to its end: the header, then each record in turn.
-pub fn read(file: &[u8]) -> FullReading
+impl From<values::Refusal> for Refusal {
+    ghost from_gives = { RefusalOfStamp };
+
+    fn from(refusal: values::Refusal) -> Refusal {
+        Refusal::Base(refusal)
+    }
+}
+
+// For calls that don't tell the place.
+impl From<Fault> for Refusal {
+    ghost from_gives = { RefusalOfFault };
+
+    fn from(fault: Fault) -> Refusal {
+        fault.refusal
+    }
+}
+
+// Reads the file from the front to its end: the header, then each record in turn. The number of records.
+pub fn read(file: &[u8]) -> Result<u32, Fault>
     ensures { ReadsFile file.now result }
 {
-    let Header::Good(regions) = header::read(file) else {
-        return FullReading::Refused(Refusal::Header, 0);
+    let Some(regions) = header::read(file) else {
+        return Err(Fault {
+            refusal: Refusal::Header,
+            place: 0,
+        });
     };
-    match walk::up_to(file, regions, i64::MAX) {
-        Walk::Ended(ended) => FullReading::Records(ended.read),
-        Walk::Refused(refusal, place) => FullReading::Refused(refusal, place),
-    }
+    let ended = walk::up_to(file, regions, i64::MAX)?;
+    Ok(ended.read)
 }
 
 // The record at a place, from one, of a file that `read` accepts.
-pub fn record_at(file: &[u8], place: u32) -> Found
+pub fn record_at(file: &[u8], place: u32) -> Result<Record, Refusal>
     ensures { FindsRecord file.now place result }
 {
-    let Header::Good(regions) = header::read(file) else {
-        return Found::Refused(Refusal::Header);
-    };
-    match walk::up_to(file, regions, i64::MAX) {
-        Walk::Ended(ended) => {
-            if place < 1 {
-                return Found::Refused(Refusal::Base(values::Refusal::Value));
-            }
-            if ended.passed < place {
-                return Found::Refused(Refusal::Base(values::Refusal::Value));
-            }
-            Found::Record(ended.shown(file, regions, place))
-        }
-        Walk::Refused(refusal, _) => Found::Refused(refusal),
+    let regions = header::read(file).ok_or(Refusal::Header)?;
+    let ended = walk::up_to(file, regions, i64::MAX)?;
+    if place < 1 {
+        return Err(Refusal::Base(values::Refusal::Value));
     }
-}
-
-fn refused(refusal: Refusal) -> Asked
-    ensures { result ≡ refused_ask refusal }
-{
-    Asked {
-        read: 0,
-        held: Held::Refused(refusal),
+    if ended.passed < place {
+        return Err(Refusal::Base(values::Refusal::Value));
     }
+    Ok(ended.shown(file, regions, place))
 }
 
 // Which correction holds on a channel at an instant, any instant. Records behind the first that is later are not looked at.
-pub fn holds(file: &[u8], instant: Instant, channel: u32) -> Asked
+pub fn holds(file: &[u8], instant: Instant, channel: u32) -> Result<Held, Refusal>
     ensures { AsksFile file.now instant channel result }
 {
     if !fields::is_channel(channel) {
-        return refused(Refusal::Base(values::Refusal::Value));
+        return Err(Refusal::Base(values::Refusal::Value));
     }
-    let Header::Good(regions) = header::read(file) else {
-        return refused(Refusal::Header);
-    };
-    match walk::up_to(file, regions, instant.micros) {
-        Walk::Ended(ended) => {
-            let place = ended.last_of(file, channel);
-            if place == 0 {
-                return Asked {
-                    read: ended.read,
-                    held: Held::NoneYet,
-                };
-            }
-            let kept = ended.shown(file, regions, place);
-            Asked {
-                read: ended.read,
-                held: Held::Record(kept),
-            }
-        }
-        Walk::Refused(refusal, _) => refused(refusal),
-    }
+    let regions = header::read(file).ok_or(Refusal::Header)?;
+    let ended = walk::up_to(file, regions, instant.micros)?;
+    let latest = ended.latest(file, regions, channel);
+    Ok(Held {
+        read: ended.read,
+        latest,
+    })
 }

@@ -2,14 +2,12 @@
 ghost use Rattle.std.specs.Prelude.{◌≡◌, ◌+◌, ◌≤◌, true, length};
 ghost use Rattle.card.specs.Step.{channel_good};
 ghost use Rattle.card.specs.Question.{holds};
-ghost use Rattle.card.specs.Over.{stamp_in, nothing, chosen, chosen_of};
+ghost use Rattle.card.specs.Over.{stamp_in, nothing, chosen};
 ghost use Rattle.schedule.specs.Meaning.{record_from, held_from, source_from, part_from};
 ghost use Rattle.schedule.specs.Steps.{HeldIn};
 ghost use Rattle.schedule.specs.Calls.{PartOf, ChoosesPart, HandsBack};
 
-use crate::header::Header;
-use crate::walk::Walk;
-use crate::{Held, Record, Refusal, fields, header, walk};
+use crate::{Record, Refusal, fields, header, walk};
 use instants::Instant;
 
 // Which of the two files.
@@ -52,9 +50,7 @@ fn stamp_in(source: Source, kept: Record) -> Part
 fn later_of(plan: Record, manual: Record) -> Part
     ensures { part_from result ≡ chosen (holds (record_from plan)) (holds (record_from manual)) }
 {
-    let planned = plan.instant;
-    let by_hand = manual.instant;
-    if by_hand.micros < planned.micros {
+    if manual.instant.micros < plan.instant.micros {
         stamp_in(Source::Plan, plan)
     } else {
         stamp_in(Source::Manual, manual)
@@ -62,43 +58,26 @@ fn later_of(plan: Record, manual: Record) -> Part
 }
 
 // By what holds in the plan and what holds in the manual schedule. How many records were read for that has no say.
-fn chosen(plan: Held, manual: Held) -> Part
-    ensures { part_from result ≡ chosen_of (held_from 0 plan) (held_from 0 manual) }
+fn chosen(plan: Option<Record>, manual: Option<Record>) -> Part
+    ensures { part_from result ≡ chosen (held_from plan) (held_from manual) }
 {
-    match plan {
-        Held::Record(planned) => match manual {
-            Held::Record(by_hand) => later_of(planned, by_hand),
-            Held::NoneYet => stamp_in(Source::Plan, planned),
-            Held::Refused(_) => nothing(),
-        },
-        Held::NoneYet => match manual {
-            Held::Record(by_hand) => stamp_in(Source::Manual, by_hand),
-            Held::NoneYet => nothing(),
-            Held::Refused(_) => nothing(),
-        },
-        Held::Refused(_) => nothing(),
+    match (plan, manual) {
+        (Some(planned), Some(by_hand)) => later_of(planned, by_hand),
+        (Some(planned), None) => stamp_in(Source::Plan, planned),
+        (None, Some(by_hand)) => stamp_in(Source::Manual, by_hand),
+        (None, None) => nothing(),
     }
 }
 
 // What holds in one of the two: what `holds` answers, but for the count. `holds` itself is called at one place of the library only, into which the compiler then
 // puts it; from here, twice, it would be a call, and each question slower by its struct.
-fn held_in(file: &[u8], until: i64, channel: u32) -> Held
+fn held_in(file: &[u8], until: i64, channel: u32) -> Result<Option<Record>, Refusal>
     requires { channel_good channel ≡ true }
     ensures { HeldIn file.now until channel result }
 {
-    let Header::Good(regions) = header::read(file) else {
-        return Held::Refused(Refusal::Header);
-    };
-    match walk::up_to(file, regions, until) {
-        Walk::Ended(ended) => {
-            let place = ended.last_of(file, channel);
-            if place == 0 {
-                return Held::NoneYet;
-            }
-            Held::Record(ended.shown(file, regions, place))
-        }
-        Walk::Refused(refusal, _) => Held::Refused(refusal),
-    }
+    let regions = header::read(file).ok_or(Refusal::Header)?;
+    let ended = walk::up_to(file, regions, until)?;
+    Ok(ended.latest(file, regions, channel))
 }
 
 // The part in numbers. A manual schedule beside a plan that is refused is not looked at.
@@ -108,11 +87,12 @@ pub fn part_over(plan: &[u8], manual: &[u8], instant: Instant, channel: u32) -> 
     if !fields::is_channel(channel) {
         return nothing();
     }
-    let planned = held_in(plan, instant.micros, channel);
-    if let Held::Refused(_) = planned {
+    let Ok(planned) = held_in(plan, instant.micros, channel) else {
         return nothing();
-    }
-    let by_hand = held_in(manual, instant.micros, channel);
+    };
+    let Ok(by_hand) = held_in(manual, instant.micros, channel) else {
+        return nothing();
+    };
     chosen(planned, by_hand)
 }
 
@@ -130,8 +110,7 @@ pub fn over<'a>(plan: &'a [u8], manual: &'a [u8], instant: Instant, channel: u32
     ensures { HandsBack plan.entry manual.entry instant channel result }
 {
     let part = part_over(plan, manual, instant, channel);
-    let source = part.source;
-    match source {
+    match part.source {
         Source::Plan => cut(plan, part.start, part.length),
         Source::Manual => cut(manual, part.start, part.length),
     }

@@ -9,18 +9,12 @@ ghost use Rattle.schedule.specs.Steps.{instant_in, timed};
 
 use values::{Kind, Located, Offset, Refusal};
 
-#[derive(Clone, Copy)]
-pub(crate) enum Timed {
-    At(i64),
-    Refused(Refusal),
-}
-
 // In microseconds.
 const MINUTE: i64 = 60_000_000;
 
 // Its local reading and its offset. The form is chosen as in `stamp`: so many octets are compact; of more, those with the kind's first four bits are
 // extended, and the others text.
-fn locate(stamp: &[u8]) -> Located
+fn locate(stamp: &[u8]) -> Result<Located, Refusal>
     ensures { Locates (read format.DatetimeTz stamp.now) result }
 {
     if stamp.len() <= compact::longest(Kind::DatetimeTz) {
@@ -37,21 +31,18 @@ fn in_utc(local: u64, offset: Offset) -> i64
     requires { (local ≤ end_of_years) × (format.offset_in_range offset.minutes ≡ true) }
     ensures { result ≡ pos local -ℤ ahead offset.minutes }
 {
-    let minutes = offset.minutes;
-    local as i64 - minutes as i64 * MINUTE
+    local as i64 - offset.minutes as i64 * MINUTE
 }
 
-fn instant(stamp: &[u8]) -> Timed
+fn instant(stamp: &[u8]) -> Result<i64, Refusal>
     ensures { timed result ≡ instant_in (read format.DatetimeTz stamp.now) }
 {
-    match locate(stamp) {
-        Located::At(local, offset) => Timed::At(in_utc(local, offset)),
-        Located::Refused(refusal) => Timed::Refused(refusal),
-    }
+    let located = locate(stamp)?;
+    Ok(in_utc(located.local, located.offset))
 }
 
 // Of the stamp that stands in the file from `from` on, with so many octets.
-pub(crate) fn instant_at(file: &[u8], from: usize, length: usize) -> Timed
+pub(crate) fn instant_at(file: &[u8], from: usize, length: usize) -> Result<i64, Refusal>
     requires { from + length ≤ listLength file.now }
     ensures { timed result ≡ instant_in (read format.DatetimeTz (take length (drop from file.now))) }
 {

@@ -4,12 +4,11 @@ ghost use Rattle.card.specs.Header.{twelve};
 ghost use Rattle.card.specs.Records.{record_start, start_at, instant_at, record_at, in_file};
 ghost use Rattle.card.specs.Step.{step};
 ghost use Rattle.schedule.specs.Meaning.{record_from};
-ghost use Rattle.schedule.specs.Steps.{Says, before_from, stepped, shown, GoodAlone, EndsBy, Runs, Walks, last_place};
+ghost use Rattle.schedule.specs.Steps.{Says, before_from, stepped, shown, GoodAlone, EndsBy, Runs, Walks, FoundLast, Latest};
 
 use crate::fields::Fields;
 use crate::header::Regions;
-use crate::stamps::Timed;
-use crate::{Record, Refusal, fields, header, stamps};
+use crate::{Fault, Record, Refusal, fields, header, stamps};
 use instants::Instant;
 
 // What came before a record: where the last stamp ended, within the stamp octets, and the last instant.
@@ -26,12 +25,6 @@ pub(crate) struct Taken {
     pub instant: i64,
 }
 
-#[derive(Clone, Copy)]
-pub(crate) enum Stepped {
-    Taken(Taken),
-    Refused(Refusal),
-}
-
 // Where a run of records ended: how many records of the file were read by then, how many of them were passed, which is all but one that is later, and the
 // instants of the last one passed and of the last one read.
 #[derive(Clone, Copy)]
@@ -42,72 +35,56 @@ pub(crate) struct Ended {
     pub instant: i64,
 }
 
-// A refusal, and the place of the record, from one.
-#[derive(Clone, Copy)]
-pub(crate) enum Walk {
-    Ended(Ended),
-    Refused(Refusal, u32),
-}
-
 // What comes of record i, from 0 on.
-pub(crate) fn step(file: &[u8], regions: Regions, i: u32, before: Before) -> Stepped
+pub(crate) fn step(file: &[u8], regions: Regions, i: u32, before: Before) -> Result<Taken, Refusal>
     requires { Says file.now regions × (i < regions.records) }
     ensures { stepped i result ≡ step twelve file.now i (before_from before) }
 {
-    let records = regions.records;
-    let stamps = regions.stamps;
-    let octets = regions.octets;
-    let ended = before.ended;
-    let last = before.last;
     let fields = fields::fields_at(file, i as usize);
-    if !fields.are_right(ended, octets, i + 1 == records) {
-        return Stepped::Refused(Refusal::Record);
+    if !fields.are_right(before.ended, regions.octets, i + 1 == regions.records) {
+        return Err(Refusal::Record);
     }
-    match stamps::instant_at(file, stamps + fields.start, fields.length) {
-        Timed::At(instant) => {
-            if instant < last {
-                return Stepped::Refused(Refusal::Order);
-            }
-            Stepped::Taken(Taken { fields, instant })
-        }
-        Timed::Refused(refusal) => Stepped::Refused(Refusal::Base(refusal)),
+    let instant = stamps::instant_at(file, regions.stamps + fields.start, fields.length)?;
+    if instant < before.last {
+        return Err(Refusal::Order);
     }
+    Ok(Taken { fields, instant })
 }
 
 // The records from record `from` on, up to the first that is later than `until`, which is read too. The only loop that reads stamps: it carries as little as
 // can be, so that the constants of the readers have room in the registers.
-fn run(file: &[u8], regions: Regions, from: u32, front: Before, until: i64) -> Walk
+fn run(file: &[u8], regions: Regions, from: u32, front: Before, until: i64) -> Result<Ended, Fault>
     requires { Says file.now regions × (from ≤ regions.records) }
     ensures { Runs file.now until from (before_from front) result }
 {
-    let records = regions.records;
     let mut before = front;
-    let mut i = from;
-    while i < records {
+    for i in from..regions.records {
         match step(file, regions, i, before) {
-            Stepped::Taken(taken) => {
-                let read = i + 1;
+            Ok(taken) => {
                 if until < taken.instant {
-                    return Walk::Ended(Ended {
-                        read,
+                    return Ok(Ended {
+                        read: i + 1,
                         passed: i,
                         last: before.last,
                         instant: taken.instant,
                     });
                 }
-                let fields = taken.fields;
                 before = Before {
-                    ended: fields.end(),
+                    ended: taken.fields.end(),
                     last: taken.instant,
                 };
-                i = read;
             }
-            Stepped::Refused(refusal) => return Walk::Refused(refusal, i + 1),
+            Err(refusal) => {
+                return Err(Fault {
+                    refusal,
+                    place: i + 1,
+                });
+            }
         }
     }
-    Walk::Ended(Ended {
-        read: i,
-        passed: i,
+    Ok(Ended {
+        read: regions.records,
+        passed: regions.records,
         last: before.last,
         instant: before.last,
     })
@@ -115,7 +92,7 @@ fn run(file: &[u8], regions: Regions, from: u32, front: Before, until: i64) -> W
 
 // From the first record on. No instant is below the least number, which so stands for none before the first record, and none is above the greatest: up to
 // that the whole file is read.
-pub(crate) fn up_to(file: &[u8], regions: Regions, until: i64) -> Walk
+pub(crate) fn up_to(file: &[u8], regions: Regions, until: i64) -> Result<Ended, Fault>
     requires { Says file.now regions }
     ensures { Walks file.now until result }
 {
@@ -132,13 +109,12 @@ impl Taken {
         requires { (records ≤ 1000) × (self.fields.start < 4294967296) }
         ensures { result ≡ shown self place records }
     {
-        let fields = self.fields;
         Record {
             place,
-            start: header::RECORDS + header::RECORD * records as usize + fields.start,
-            length: fields.length,
-            channel: fields.channel,
-            correction: fields.correction,
+            start: header::RECORDS + header::RECORD * records as usize + self.fields.start,
+            length: self.fields.length,
+            channel: self.fields.channel,
+            correction: self.fields.correction,
             instant: Instant::new(self.instant),
         }
     }
@@ -154,26 +130,23 @@ fn instant_of(file: &[u8], regions: Regions, i: u32, start: usize) -> i64
         last: i64::MIN,
     };
     match run(file, regions, i, alone, i64::MIN) {
-        Walk::Ended(ended) => ended.instant,
-        Walk::Refused(_, _) => 0, // never: the record is good
+        Ok(ended) => ended.instant,
+        Err(_) => 0, // never: the record is good
     }
 }
 
 impl Ended {
-    // The place of the last record of a channel among those passed, from one; 0 if there is none.
-    pub(crate) fn last_of(self, file: &[u8], channel: u32) -> u32
+    // The place of the last record of a channel among those passed, from one.
+    fn last_of(self, file: &[u8], channel: u32) -> Option<u32>
         requires { (self.passed ≤ 1000) × (record_start twelve self.passed ≤ length file.now) }
-        ensures { result ≡ last_place file.now channel self.passed }
+        ensures { FoundLast file.now channel self.passed result }
     {
-        let mut place = self.passed;
-        while 0 < place {
-            let fields = fields::fields_at(file, (place - 1) as usize);
-            if fields.channel == channel {
-                return place;
+        for i in (0..self.passed).rev() {
+            if fields::fields_at(file, i as usize).channel == channel {
+                return Some(i + 1);
             }
-            place -= 1;
         }
-        0
+        None
     }
 
     // The record at a place among those passed, from one.
@@ -183,18 +156,26 @@ impl Ended {
     {
         let i = place - 1;
         let fields = fields::fields_at(file, i as usize);
-        let records = regions.records;
         if place == self.passed {
-            let taken = Taken {
+            return Taken {
                 fields,
                 instant: self.last,
-            };
-            return taken.in_file(place, records);
+            }
+            .in_file(place, regions.records);
         }
-        let taken = Taken {
+        Taken {
             fields,
             instant: instant_of(file, regions, i, fields.start),
-        };
-        taken.in_file(place, records)
+        }
+        .in_file(place, regions.records)
+    }
+
+    // The last record of a channel among those passed.
+    pub(crate) fn latest(self, file: &[u8], regions: Regions, channel: u32) -> Option<Record>
+        requires { Says file.now regions × EndsBy file.now self }
+        ensures { Latest file.now channel self.passed result }
+    {
+        let place = self.last_of(file, channel)?;
+        Some(self.shown(file, regions, place))
     }
 }

@@ -1,13 +1,14 @@
 -- The form that is chosen, in reading and in writing, and what the choice tells. Assumes nothing.
-use mathlib.Core.Path.{◌≡◌}
-use mathlib.Core.Bool.{true, false}
+use mathlib.Core.Path.{◌≡◌, refl}
+use mathlib.Core.Bool.{Bool, true, false}
 use mathlib.Core.List.{List}
 use Prim.Native.Nat.{ℕ, ◌<◌, ◌≤◌}
+use native.Mathlib.Omega.{arith}
 use lib.Dec.{eqb}
 use lib.ListN.{length}
 use borrow.Author.Tests.{le-leb, lt-leb, leb-true}
-use Rattle.format.specs.Words.{both, refused}
-use Rattle.format.specs.Values.{Kind, timed, Value, Settings, digits_in_range, text, compact, extended}
+use Rattle.format.specs.Words.{both, if_any, refused}
+use Rattle.format.specs.Values.{Kind, timed, Value, Settings, most_digits, digits_in_range, Form, text, compact, extended}
 use Rattle.format.specs.Choice.{form_for, kind_has}
 use Rattle.format.specs.Writing.{encode_in, encode}
 use Rattle.format.specs.TextReading.{digits_found}
@@ -39,13 +40,28 @@ module _ (k : Kind) (t : Settings) (v : Value) where
   unfolding encode
   too_many e = rw e
 
-  pub in_form : digits_in_range t.digits ≡ true → encode k t v ≡ encode_in k (form_for k t v) v
+  pub in_form : digits_in_range t.digits ≡ true → (f : Form) → f ≡ form_for k t v → encode k t v ≡ encode_in k f v
   unfolding encode
-  in_form e = rw e
+  in_form e f c = rw (e, c)
 
 -- ---- writing: a chosen form is one that the kind has
 
 module _ (k : Kind) (t : Settings) (v : Value) (l : digits_in_range t.digits ≡ true) where
-  pub chosen_digits : (d : ℕ) → form_for k t v ≡ text d → d ≤ 6
+  has : (f : Form) → f ≡ form_for k t v → kind_has k f ≡ true
+  has f c = rw (← c) at (chosen_has k t v (leb-true t.digits 6 l))
+
+  pub chosen_digits : (d : ℕ) → text d ≡ form_for k t v → d ≤ 6
   unfolding kind_has
-  chosen_digits d e = at_most (timed k) d (leb-true _ _ (rw e at (chosen_has k t v (leb-true t.digits 6 l))))
+  chosen_digits d c = at_most (timed k) d (leb-true _ _ (has (text d) c))
+
+  pub timed_text : (d : ℕ) → text d ≡ form_for k t v → text (if_any (timed k) d) ≡ form_for k t v
+  unfolding kind_has
+  timed_text d c = rw (same (timed k) (leb-true _ _ (has (text d) c))) c
+    where
+      same : (b : Bool) → d ≤ if_any b most_digits → if_any b d ≡ d
+      same true h = refl
+      same false h = omega arith
+
+  pub chosen_timed : extended ≡ form_for k t v → timed k ≡ true
+  unfolding kind_has
+  chosen_timed c = has extended c

@@ -1,127 +1,79 @@
-// The nine readers. One promise: what `read` says of the kind and the octets, or `read_either` of the two kinds.
-ghost use Rattle.format.specs.Reading.{read};
+// The readers. Each promises what `read` says of the kind and the octets, or `read_either` of the two kinds.
+ghost use Rattle.std.specs.Prelude.{◌≡◌, ◌<◌, eqb, length};
+ghost use Rattle.format.specs.Words.{both};
+ghost use Rattle.format.specs.Values as format;
+ghost use Rattle.format.specs.Extended.{head_bits};
+ghost use Rattle.format.specs.Reading as reading;
 ghost use Rattle.values.specs.Meaning.{kind_from};
-ghost use Rattle.values.specs.Promise.{Reads};
-ghost use Rattle.stamp.specs.Calls.{ReadsDate, ReadsDateTz, ReadsTime, ReadsTimeTz, ReadsDatetime, ReadsDatetimeTz};
-ghost use Rattle.stamp.specs.Calls.{ReadsDateOrDateTz, ReadsTimeOrTimeTz, ReadsDatetimeOrDatetimeTz};
+ghost use Rattle.values.specs.Promise.{Parses, Reads};
+ghost use Rattle.stamp.specs.Calls.{ReadsStamp, ReadsDateOrDateTz, ReadsTimeOrTimeTz, ReadsDatetimeOrDatetimeTz};
 
-use crate::{either, reading};
+use crate::either;
+use calendar::Date;
 use values::{
-    DateAnswer, DateTz, DateTzAnswer, Datetime, DatetimeAnswer, DatetimeTz, DatetimeTzAnswer,
-    Decoded, Kind, Parsed, Reading, TimeAnswer, TimeTz, TimeTzAnswer,
+    Answer, DateTz, Datetime, DatetimeTz, Decoded, Kind, Refusal, Stamp, Time, TimeTz, Value,
 };
 
-// ---- one kind: what its form's reader found, under the kind and with its parts
+// ---- one kind: the form is chosen, and what its reader found is answered under the kind and with its parts
 
-pub fn read_date(s: &[u8]) -> Reading
-    ensures { ReadsDate s.now result }
+// Of more octets than are compact, those with the kind's first four bits are extended. Kinds without a time have no extended form.
+#[tactic(auto, unfolding(format::specs::Reading::first_bits))]
+fn is_extended(kind: Kind, s: &[u8]) -> bool
+    requires { 0 < length s.now }
+    ensures { result ≡ both (format.timed (kind_from kind)) (eqb (reading.first_bits s.now) (head_bits (kind_from kind))) }
 {
-    match reading::parse_date(s) {
-        Parsed::Stamp(form, all) => {
-            let value = all.date;
-            Reading::Stamp(Decoded::Date(DateAnswer { value, form }))
-        }
-        Parsed::Refused(refusal) => Reading::Refused(refusal),
-    }
+    kind.timed() && s[0] / 16 == extended::head_bits(kind)
 }
 
-pub fn read_date_tz(s: &[u8]) -> Reading
-    ensures { ReadsDateTz s.now result }
+// 01's table: so many octets are compact; of more, those with the kind's first four bits are extended, and the others text.
+fn parse<T: Stamp>(s: &[u8]) -> Result<Answer<Value>, Refusal>
+    ensures { Parses T.kind (reading.read T.kind s.now) result }
 {
-    match reading::parse_date_tz(s) {
-        Parsed::Stamp(form, all) => {
-            let date = all.date;
-            let offset = all.offset;
-            let value = DateTz { date, offset };
-            Reading::Stamp(Decoded::DateTz(DateTzAnswer { value, form }))
-        }
-        Parsed::Refused(refusal) => Reading::Refused(refusal),
+    let kind = T::kind();
+    if s.len() <= compact::longest(kind) {
+        return compact::read::<T>(s);
     }
+    if is_extended(kind, s) {
+        return extended::read::<T>(s);
+    }
+    text::read::<T>(s)
 }
 
-pub fn read_time(s: &[u8]) -> Reading
-    ensures { ReadsTime s.now result }
+pub fn read<T: Stamp>(s: &[u8]) -> Result<Decoded, Refusal>
+    ensures { ReadsStamp T.kind s.now result }
 {
-    match reading::parse_time(s) {
-        Parsed::Stamp(form, all) => {
-            let value = all.time;
-            Reading::Stamp(Decoded::Time(TimeAnswer { value, form }))
-        }
-        Parsed::Refused(refusal) => Reading::Refused(refusal),
-    }
-}
-
-pub fn read_time_tz(s: &[u8]) -> Reading
-    ensures { ReadsTimeTz s.now result }
-{
-    match reading::parse_time_tz(s) {
-        Parsed::Stamp(form, all) => {
-            let time = all.time;
-            let offset = all.offset;
-            let value = TimeTz { time, offset };
-            Reading::Stamp(Decoded::TimeTz(TimeTzAnswer { value, form }))
-        }
-        Parsed::Refused(refusal) => Reading::Refused(refusal),
-    }
-}
-
-pub fn read_datetime(s: &[u8]) -> Reading
-    ensures { ReadsDatetime s.now result }
-{
-    match reading::parse_datetime(s) {
-        Parsed::Stamp(form, all) => {
-            let date = all.date;
-            let time = all.time;
-            let value = Datetime { date, time };
-            Reading::Stamp(Decoded::Datetime(DatetimeAnswer { value, form }))
-        }
-        Parsed::Refused(refusal) => Reading::Refused(refusal),
-    }
-}
-
-pub fn read_datetime_tz(s: &[u8]) -> Reading
-    ensures { ReadsDatetimeTz s.now result }
-{
-    match reading::parse_datetime_tz(s) {
-        Parsed::Stamp(form, all) => {
-            let date = all.date;
-            let time = all.time;
-            let offset = all.offset;
-            let value = DatetimeTz { date, time, offset };
-            Reading::Stamp(Decoded::DatetimeTz(DatetimeTzAnswer { value, form }))
-        }
-        Parsed::Refused(refusal) => Reading::Refused(refusal),
-    }
+    let Answer { value, form } = parse::<T>(s)?;
+    Ok(T::of(value).decoded(form))
 }
 
 // ---- either-or: the kind that is chosen, and its reader
 
-fn read_kind(kind: Kind, s: &[u8]) -> Reading
-    ensures { Reads (read (kind_from kind) s.now) result }
+fn read_kind(kind: Kind, s: &[u8]) -> Result<Decoded, Refusal>
+    ensures { Reads (reading.read (kind_from kind) s.now) result }
 {
     match kind {
-        Kind::Date => read_date(s),
-        Kind::DateTz => read_date_tz(s),
-        Kind::Time => read_time(s),
-        Kind::TimeTz => read_time_tz(s),
-        Kind::Datetime => read_datetime(s),
-        Kind::DatetimeTz => read_datetime_tz(s),
+        Kind::Date => read::<Date>(s),
+        Kind::DateTz => read::<DateTz>(s),
+        Kind::Time => read::<Time>(s),
+        Kind::TimeTz => read::<TimeTz>(s),
+        Kind::Datetime => read::<Datetime>(s),
+        Kind::DatetimeTz => read::<DatetimeTz>(s),
     }
 }
 
-pub fn read_date_or_date_tz(s: &[u8]) -> Reading
+pub fn read_date_or_date_tz(s: &[u8]) -> Result<Decoded, Refusal>
     ensures { ReadsDateOrDateTz s.now result }
 {
     read_kind(either::date_kind(s), s)
 }
 
-pub fn read_time_or_time_tz(s: &[u8]) -> Reading
+pub fn read_time_or_time_tz(s: &[u8]) -> Result<Decoded, Refusal>
     ensures { ReadsTimeOrTimeTz s.now result }
 {
     read_kind(either::time_kind(s), s)
 }
 
-pub fn read_datetime_or_datetime_tz(s: &[u8]) -> Reading
+pub fn read_datetime_or_datetime_tz(s: &[u8]) -> Result<Decoded, Refusal>
     ensures { ReadsDatetimeOrDatetimeTz s.now result }
 {
     read_kind(either::datetime_kind(s), s)

@@ -1,9 +1,9 @@
 -- What is answered of a text whose octets are all right, by what its numbers are: -00:00, a part out of its range, or the stamp. Over the kind;
 -- b is what a test answered. Assumes nothing.
-use Rattle.std.proofs.Common.{◌≡◌, ℕ, ◌≤◌, Bool, true, false, not, eqb, leb, List, length, pos, sym, refl, ap, ◌∙◌, leb-true}
+use Rattle.std.proofs.Common.{◌≡◌, ℕ, ◌≤◌, Bool, true, false, not, eqb, leb, List, length, sym, ◌∙◌, leb-true}
 use Rattle.format.specs.Words.{both, needs, accepted, refused}
 use Rattle.format.specs.Calendar.{Day, is_day}
-use Rattle.format.specs.Values.{Kind, dated, time_in_range, text}
+use Rattle.format.specs.Values.{Kind, dated, text}
 use Rattle.format.specs.TextReading.{digits_found}
 use Rattle.format.specs.Reading.{read_as}
 use Rattle.format.proofs.Cases.{both_true, both_false}
@@ -18,7 +18,7 @@ use Rattle.text.specs.Parts.{clock_in_day, offset_of}
 use Rattle.text.specs.Outcomes.{outcome_of}
 use Rattle.text.proofs.Rows.{fails}
 use Rattle.text.proofs.Texts.{accepted_as}
-use Rattle.text.proofs.Places.{Refuses, Said, no_clock, no_zone, refuses}
+use Rattle.text.proofs.Places.{Refuses, Said, refuses}
 
 abbrev redundant : Zone → Bool
 redundant z = both z.minus (both (eqb z.hours 0) (eqb z.minutes 0))
@@ -36,10 +36,7 @@ module _ {k : Kind} {d : ℕ} {s : List ℕ} {x : Day} {t : Clock} {z : Zone} wh
     pub is_redundant : {b : Bool} → b ≡ redundant z → b ≡ true → Refuses k s 7
     is_redundant e h = refuses w.opened 7 (w.read ∙ (unfold outcome_of in rw (sym e ∙ h)))
 
-    abbrev pub AfterSign : Type 0
-    AfterSign = Plain k d s x t z
-
-    pub not_redundant : {b : Bool} → b ≡ redundant z → b ≡ false → AfterSign
+    pub not_redundant : {b : Bool} → b ≡ redundant z → b ≡ false → Plain k d s x t z
     not_redundant e h = record { said = w; plain = sym e ∙ h }
 
   module _ (w : Plain k d s x t z) where
@@ -63,20 +60,7 @@ module _ {k : Kind} {d : ℕ} {s : List ℕ} {x : Day} {t : Clock} {z : Zone} wh
     stamped f g h {v = v} a b c =
         accepted_as k d s w.said.opened.found _ (w.said.read ∙ rw (w.plain, f, g, h, a, b, c))
 
--- no time: nothing out of range
-pub no_clock_fits : clock_in_day no_clock.minute no_clock.second no_clock.time.micros ≡ true
-unfolding time_in_range
-no_clock_fits = refl
-
--- no offset: nothing to be redundant
-pub unsigned : {k : Kind} {d : ℕ} {s : List ℕ} {x : Day} {t : Clock} → Said k d s x t no_zone → Plain k d s x t no_zone
-unsigned w = record { said = w; plain = refl }
-
 pub zone_small : (h m : ℕ) → both (leb h 23) (leb m 59) ≡ true → (h ≤ 23) × (m ≤ 59)
 zone_small h m e =
     let b = both_true (leb h 23) (leb m 59) e in
     (leb-true h 23 b.0, leb-true m 59 b.1)
-
-pub no_minutes : {o : Offset} → o ≡ record { minutes = pos 0 } → o.minutes ≡ offset_of no_zone
-unfolding offset_of
-no_minutes e = ap (λ (x : Offset). x.minutes) e

@@ -4,6 +4,7 @@ use Rattle.format.specs.Values.{Kind, dated, timed, zoned}
 use Rattle.format.specs.Fields.{width, widths}
 use Rattle.format.specs.Text.{date_row, clock_row, offset_row, layout, text_length}
 use Rattle.format.specs.TextReading.{digits_from, digits_found}
+use Rattle.text.specs.Putting.{fraction_field}
 use Rattle.format.proofs.Cases.{lt_or_le, eq_or_ne}
 use Rattle.format.proofs.Fields.{widths_append}
 use Rattle.format.proofs.Choosing.{digits_back, found_fits}
@@ -25,11 +26,16 @@ clock_part : (y x : Bool) (d : ℕ) → y ≡ true → widths (clock_row y x (su
 unfolding widths width
 clock_part y x d e = rw (e, ne_eqb (suc d) 0 (omega arith)) (omega arith)
 
-length_plain : (k : Kind) (d : ℕ) → timed k ≡ false → text_length k d ≡ text_length k 0
+pub length_plain : (k : Kind) (d : ℕ) → timed k ≡ false → text_length k d ≡ text_length k 0
 length_plain k d t = omega (arith, lengths k d, lengths k 0, clock_plain (timed k) (dated k) d t)
 
 length_part : (k : Kind) (d : ℕ) → timed k ≡ true → text_length k (suc d) ≡ text_length k 0 + (2 + d)
 length_part k d t = omega (arith, lengths k (suc d), lengths k 0, clock_part (timed k) (dated k) d t)
+
+pub length_digits : (k : Kind) (d : ℕ) → timed k ≡ true → text_length k d ≡ text_length k 0 + width (fraction_field d)
+unfolding width
+length_digits k zero t = omega arith
+length_digits k (suc d) t = length_part k d t ∙ rw (ne_eqb (suc d) 0 (omega arith)) (omega arith)
 
 date_small : (x : Bool) → widths (date_row x) ≤ 10
 unfolding widths width

@@ -6,8 +6,6 @@ ghost use Rattle.format.specs.Text.{fraction_unit};
 ghost use Rattle.text.specs.Putting.{fraction_field};
 ghost use Rattle.text.specs.Pairs.{part_at, number_row};
 
-use crate::pairs::Number;
-
 fn is_digit(octet: u8) -> bool
     ensures { result ≡ is_digit octet }
 {
@@ -34,15 +32,15 @@ fn fraction_unit(digits: u32) -> u32
 }
 
 // However many digits.
-pub fn digit_by_digit(s: &[u8], at: usize, digits: u32) -> Number
+pub fn digit_by_digit(s: &[u8], at: usize, digits: u32) -> Option<u32>
     requires { (at + width (fraction_field digits) ≤ length s.now) × (digits ≤ 6) }
     ensures { number_row result ≡ part_at digits s.now at }
 {
     if digits == 0 {
-        return Number::Read(0);
+        return Some(0);
     }
     if s[at] != 46 {
-        return Number::Refused;
+        return None;
     }
     let first = at + 1;
     let n = digits as usize;
@@ -51,10 +49,10 @@ pub fn digit_by_digit(s: &[u8], at: usize, digits: u32) -> Number
     while i < n {
         let octet = s[first + i];
         if !is_digit(octet) {
-            return Number::Refused;
+            return None;
         }
         number = number * 10 + octet as u32 - 48;
         i += 1;
     }
-    Number::Read(number * fraction_unit(digits))
+    Some(number * fraction_unit(digits))
 }

@@ -1,9 +1,10 @@
 // The lengths of texts and of their parts, and how many fraction digits a text has.
-ghost use Rattle.std.specs.Prelude.{◌≡◌};
+ghost use Rattle.std.specs.Prelude.{◌≡◌, ◌≤◌};
 ghost use Rattle.format.specs.Text.{text_length};
 ghost use Rattle.format.specs.TextReading.{digits_found};
 ghost use Rattle.values.specs.Meaning.{kind_from};
 
+use crate::writing;
 use values::{Kind, Settings};
 
 // The parts, in octets: `yyyy-mm-dd`, `hh:mm:ss` and an offset.
@@ -37,6 +38,18 @@ fn whole_length(kind: Kind) -> usize
         Kind::Datetime => DATETIME,
         Kind::DatetimeTz => DATETIME_TZ,
     }
+}
+
+// The length of a text with so many digits.
+pub fn text_length(kind: Kind, digits: u32) -> usize
+    requires { digits ≤ 6 }
+    ensures { result ≡ text_length (kind_from kind) digits }
+{
+    let whole = whole_length(kind);
+    if kind.timed() {
+        return whole + writing::fraction_length(digits);
+    }
+    whole
 }
 
 // How many fraction digits a text of this kind and length has; one more than there can be where there is no such text.

@@ -15,9 +15,5 @@ mod writing;
 
 pub use locating::locate_datetime_tz;
 pub use parts::is_sign;
-pub use reading::{
-    read_date, read_date_tz, read_datetime, read_datetime_tz, read_time, read_time_tz,
-};
-pub use writers::{
-    write_date, write_date_tz, write_datetime, write_datetime_tz, write_time, write_time_tz,
-};
+pub use reading::read;
+pub use writers::write;

@@ -80,6 +80,13 @@ impl Clock {
 }
 
 impl Zone {
+    // What stands for the offset of a kind without one.
+    pub const NONE: Zone = Zone {
+        minus: false,
+        hours: 0,
+        minutes: 0,
+    };
+
     // One sum: signs come at random, and a branch on one is guessed wrong half the time.
     pub fn is_minus_zero(self) -> bool
         ensures { result ≡ both self.minus (both (self.hours == 0) (self.minutes == 0)) }

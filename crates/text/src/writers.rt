@@ -1,13 +1,21 @@
-// The text writers, one a kind: each part has its place, so that nothing of the kind is left to test when they run.
+// The text writer of each kind: each part has its place, so that nothing of the kind is left to test when it runs.
 // The refusals come in their order: a part out of its range, then a buffer too short. The length is known before the first store.
-ghost use Rattle.std.specs.Prelude.{◌≡◌, ◌≤◌, length, slice_set};
-ghost use Rattle.format.specs.Values.{text, Date, DateTz, Time, TimeTz, Datetime, DatetimeTz};
+ghost use Rattle.std.specs.Prelude.{◌≡◌, ◌+◌, ◌-◌, ◌≤◌, true, length, slice_set};
+ghost use Rattle.std.proofs.lemmas.List.Edits.{sets};
+ghost use Rattle.format.specs.Words.{needs, if_any};
+ghost use Rattle.format.specs.Calendar.{is_day};
+ghost use Rattle.format.specs.Values.{text, dated, timed, zoned, time_in_range, offset_in_range};
+ghost use Rattle.format.specs.Fields.{widths};
+ghost use Rattle.format.specs.Text.{clock_row};
 ghost use Rattle.format.specs.Writing.{encode_in};
+ghost use Rattle.calendar.specs.Meaning.{day_from};
 ghost use Rattle.values.specs.Meaning.{value_from};
 ghost use Rattle.values.specs.Promise.{Writes};
+ghost use Rattle.text.specs.Putting.{date_octets, clock_octets, offset_octets};
 
 use crate::{lengths, parts, writing};
-use values::{Refusal, Value, Written};
+use calendar::Date;
+use values::{Offset, Refusal, Stamp, Time, Value};
 
 // `T` joins a date and a time.
 fn put_joint(buf: &mut [u8])
@@ -17,123 +25,61 @@ fn put_joint(buf: &mut [u8])
     octets::put1(buf, lengths::DATE, parts::T);
 }
 
-pub fn write_date(value: Value, buf: &mut [u8]) -> Written
-    ensures { Writes (encode_in Date (text 0) (value_from value)) buf.old result buf.new }
+fn digits_of<T: Stamp>(digits: u32) -> u32
+    ensures { result ≡ if_any (timed T.kind) digits }
 {
-    let date = value.date;
-    if !date.in_range() {
-        return Written::Refused(Refusal::Value);
-    }
-    if buf.len() < lengths::DATE {
-        return Written::Refused(Refusal::Buffer);
-    }
-    writing::put_date(buf, date);
-    Written::Octets(lengths::DATE)
+    if T::kind().timed() { digits } else { 0 }
 }
 
-pub fn write_date_tz(value: Value, buf: &mut [u8]) -> Written
-    ensures { Writes (encode_in DateTz (text 0) (value_from value)) buf.old result buf.new }
+fn put_date_of<T: Stamp>(buf: &mut [u8], date: Date)
+    requires { (needs (dated T.kind) (is_day (day_from date)) ≡ true) × (if_any (dated T.kind) 10 ≤ length buf.old) }
+    ensures { buf.new ≡ sets buf.old 0 (date_octets (dated T.kind) (day_from date)) }
 {
-    let date = value.date;
-    let offset = value.offset;
-    if !date.in_range() {
-        return Written::Refused(Refusal::Value);
+    if T::kind().dated() {
+        writing::put_date(buf, date);
     }
-    if !offset.in_range() {
-        return Written::Refused(Refusal::Value);
-    }
-    if buf.len() < lengths::DATE_TZ {
-        return Written::Refused(Refusal::Buffer);
-    }
-    writing::put_date(buf, date);
-    writing::put_offset(buf, lengths::DATE, offset);
-    Written::Octets(lengths::DATE_TZ)
 }
 
-pub fn write_time(value: Value, digits: u32, buf: &mut [u8]) -> Written
-    requires { digits ≤ 6 }
-    ensures { Writes (encode_in Time (text digits) (value_from value)) buf.old result buf.new }
+fn put_time_of<T: Stamp>(buf: &mut [u8], digits: u32, time: Time)
+    requires { (needs (timed T.kind) (time_in_range time.micros) ≡ true) × (digits ≤ 6) × (if_any (dated T.kind) 10 + widths (clock_row (timed T.kind) (dated T.kind) digits) ≤ length buf.old) }
+    ensures { buf.new ≡ sets buf.old (if_any (dated T.kind) 10) (clock_octets (timed T.kind) (dated T.kind) digits time.micros) }
 {
-    let time = value.time;
-    if !time.in_range() {
-        return Written::Refused(Refusal::Value);
+    if !T::kind().timed() {
+        return;
     }
-    let length = lengths::TIME + writing::fraction_length(digits);
-    if buf.len() < length {
-        return Written::Refused(Refusal::Buffer);
+    if T::kind().dated() {
+        put_joint(buf);
+        writing::put_time(buf, lengths::TIME_AT, digits, time);
+        return;
     }
     writing::put_time(buf, 0, digits, time);
-    Written::Octets(length)
 }
 
-pub fn write_time_tz(value: Value, digits: u32, buf: &mut [u8]) -> Written
-    requires { digits ≤ 6 }
-    ensures { Writes (encode_in TimeTz (text digits) (value_from value)) buf.old result buf.new }
+// The text ends with it.
+fn put_offset_of<T: Stamp>(buf: &mut [u8], end: usize, offset: Offset)
+    requires { (needs (zoned T.kind) (offset_in_range offset.minutes) ≡ true) × (if_any (zoned T.kind) 6 ≤ end) × (end ≤ length buf.old) }
+    ensures { buf.new ≡ sets buf.old (end - if_any (zoned T.kind) 6) (offset_octets (zoned T.kind) offset.minutes) }
 {
-    let time = value.time;
-    let offset = value.offset;
-    if !time.in_range() {
-        return Written::Refused(Refusal::Value);
+    if T::kind().zoned() {
+        writing::put_offset(buf, end - lengths::OFFSET, offset);
     }
-    if !offset.in_range() {
-        return Written::Refused(Refusal::Value);
-    }
-    let zone = lengths::TIME + writing::fraction_length(digits);
-    let length = zone + lengths::OFFSET;
-    if buf.len() < length {
-        return Written::Refused(Refusal::Buffer);
-    }
-    writing::put_time(buf, 0, digits, time);
-    writing::put_offset(buf, zone, offset);
-    Written::Octets(length)
 }
 
-pub fn write_datetime(value: Value, digits: u32, buf: &mut [u8]) -> Written
+// Only a time has digits.
+pub fn write<T: Stamp>(value: Value, digits: u32, buf: &mut [u8]) -> Result<usize, Refusal>
     requires { digits ≤ 6 }
-    ensures { Writes (encode_in Datetime (text digits) (value_from value)) buf.old result buf.new }
+    ensures { Writes (encode_in T.kind (text (if_any (timed T.kind) digits)) (value_from value)) buf.old result buf.new }
 {
-    let date = value.date;
-    let time = value.time;
-    if !date.in_range() {
-        return Written::Refused(Refusal::Value);
+    if !value.in_range(T::kind()) {
+        return Err(Refusal::Value);
     }
-    if !time.in_range() {
-        return Written::Refused(Refusal::Value);
-    }
-    let length = lengths::DATETIME + writing::fraction_length(digits);
+    let digits = digits_of::<T>(digits);
+    let length = lengths::text_length(T::kind(), digits);
     if buf.len() < length {
-        return Written::Refused(Refusal::Buffer);
+        return Err(Refusal::Buffer);
     }
-    writing::put_date(buf, date);
-    put_joint(buf);
-    writing::put_time(buf, lengths::TIME_AT, digits, time);
-    Written::Octets(length)
-}
-
-pub fn write_datetime_tz(value: Value, digits: u32, buf: &mut [u8]) -> Written
-    requires { digits ≤ 6 }
-    ensures { Writes (encode_in DatetimeTz (text digits) (value_from value)) buf.old result buf.new }
-{
-    let date = value.date;
-    let time = value.time;
-    let offset = value.offset;
-    if !date.in_range() {
-        return Written::Refused(Refusal::Value);
-    }
-    if !time.in_range() {
-        return Written::Refused(Refusal::Value);
-    }
-    if !offset.in_range() {
-        return Written::Refused(Refusal::Value);
-    }
-    let zone = lengths::DATETIME + writing::fraction_length(digits);
-    let length = zone + lengths::OFFSET;
-    if buf.len() < length {
-        return Written::Refused(Refusal::Buffer);
-    }
-    writing::put_date(buf, date);
-    put_joint(buf);
-    writing::put_time(buf, lengths::TIME_AT, digits, time);
-    writing::put_offset(buf, zone, offset);
-    Written::Octets(length)
+    put_date_of::<T>(buf, value.date);
+    put_time_of::<T>(buf, digits, value.time);
+    put_offset_of::<T>(buf, length, value.offset);
+    Ok(length)
 }

@@ -1,6 +1,6 @@
 -- No two different answers meet one promise: of any writer, of any reader, and of each public call, at the promise that its contract cites
 -- (specs/Calls). What an answer means can be undone, a clause for each case. Assumes nothing.
-use mathlib.Core.Path.{◌≡◌, refl, sym, ◌∙◌}
+use mathlib.Core.Path.{◌≡◌, refl, sym, ap, ◌∙◌}
 use mathlib.Core.Bool.{Bool}
 use mathlib.Core.List.{List}
 use Prim.Native.Nat.{ℕ}
@@ -14,23 +14,22 @@ use Rattle.values.specs.declared.parts.Time.{Time}
 use Rattle.values.specs.declared.parts.Offset.{Offset}
 use Rattle.values.specs.declared.kinds.Kind.{Kind}
 use Rattle.values.specs.declared.kinds.Kind.TheVariants as K
+use Rattle.values.specs.declared.kinds.NoSuchKind.{NoSuchKind}
 use Rattle.values.specs.declared.kinds.Value.{Value}
 use Rattle.values.specs.declared.refusal.Refusal.{Refusal}
 use Rattle.values.specs.declared.refusal.Refusal.TheVariants as R
 use Rattle.values.specs.declared.settings.Form.{Form}
 use Rattle.values.specs.declared.settings.Form.TheVariants as F
 use Rattle.values.specs.declared.settings.Settings.{Settings}
-use Rattle.values.specs.declared.answers.Written.{Written}
-use Rattle.values.specs.declared.answers.Written.TheVariants as W
+use Rattle.std.specs.Prelude.{Result, Ok, Err}
+use Rattle.values.specs.declared.answers.Answer.{Answer}
 use Rattle.values.specs.declared.answers.Decoded.{Decoded}
 use Rattle.values.specs.declared.answers.Decoded.TheVariants as D
-use Rattle.values.specs.declared.answers.Reading.{Reading}
-use Rattle.values.specs.declared.answers.Reading.TheVariants as G
-use Rattle.values.specs.Meaning.{refusal_number, form_from, settings_from, kind_from}
-use Rattle.values.specs.Answers.{written_number, written_count, reading}
-use Rattle.values.specs.Promise.{Left, Writes, Reads}
+use Rattle.values.specs.Meaning.{refusal_number, form_from, settings_from, kind_from, kind_found, value_from}
+use Rattle.values.specs.Answers.{written_number, written_count, outcome, answered, decoded}
+use Rattle.values.specs.Promise.{Left, Writes, Reads, ReadsAs}
 use Rattle.values.specs.Calls.{TimeNew, TimeEndOfDay, TimeIsEndOfDay, TimeInRange, OffsetNew, OffsetInRange}
-use Rattle.values.specs.Calls.{KindDated, KindTimed, KindZoned, ValueRestInRange, ValueInRange, RefusalNumber}
+use Rattle.values.specs.Calls.{KindDated, KindTimed, KindZoned, KindOfNumber, KindNumber, ValueRestInRange, ValueInRange, DecodedKind, DecodedForm, DecodedValue, RefusalNumber}
 use Rattle.values.specs.Calls.{SettingsNew, SettingsDefault, SettingsForForm, SettingsForm, SettingsInRange}
 
 -- ---- meanings undone
@@ -87,21 +86,28 @@ settings_back : (t : Settings) → settings_of (settings_from t) ≡ t
 unfolding settings_of
 settings_back t = refl
 
--- a count is a writer's only where the number is 0
-written_of : ℕ → ℕ → Written
-written_of n k = pick (eqb n 0) (W.Octets k) (W.Refused (refusal_of n))
+value_of : format.Value → Value
+value_of v = record { date = record { year = v.date.year; month = v.date.month; day = v.date.day }; time = record { micros = v.micros }; offset = record { minutes = v.offset } }
 
-written_back : (r : Written) → written_of (written_number r) (written_count r) ≡ r
+value_back : (v : Value) → value_of (value_from v) ≡ v
+unfolding value_of
+value_back v = refl
+
+-- a count is a writer's only where the number is 0
+written_of : ℕ → ℕ → Result ℕ Refusal
+written_of n k = pick (eqb n 0) (Ok k) (Err (refusal_of n))
+
+written_back : (r : Result ℕ Refusal) → written_of (written_number r) (written_count r) ≡ r
 unfolding written_of refusal_of
-written_back (W.Octets n) = refl
-written_back (W.Refused R.Digits) = refl
-written_back (W.Refused R.Value) = refl
-written_back (W.Refused R.NoCompact) = refl
-written_back (W.Refused R.Buffer) = refl
-written_back (W.Refused R.Length) = refl
-written_back (W.Refused R.Octet) = refl
-written_back (W.Refused R.Redundant) = refl
-written_back (W.Refused R.Range) = refl
+written_back (Ok n) = refl
+written_back (Err R.Digits) = refl
+written_back (Err R.Value) = refl
+written_back (Err R.NoCompact) = refl
+written_back (Err R.Buffer) = refl
+written_back (Err R.Length) = refl
+written_back (Err R.Octet) = refl
+written_back (Err R.Redundant) = refl
+written_back (Err R.Range) = refl
 
 decoded_of : format.Kind → Form → format.Value → Decoded
 decoded_of format.Date f v = D.Date (record { value = record { year = v.date.year; month = v.date.month; day = v.date.day }; form = f })
@@ -117,19 +123,27 @@ decoded_of format.DatetimeTz f v =
       form = f;
     })
 
-reading_of : Outcome format.Answer → Reading
-reading_of (accepted a) = G.Stamp (decoded_of a.kind (form_of a.form) a.value)
-reading_of (refused n) = G.Refused (refusal_of n)
+under_kind : format.Answer → Decoded
+under_kind a = decoded_of a.kind (form_of a.form) a.value
 
-reading_back : (r : Reading) → reading_of (reading r) ≡ r
-unfolding reading_of decoded_of
-reading_back (G.Stamp (D.Date a)) = rw (form_back a.form)
-reading_back (G.Stamp (D.DateTz a)) = rw (form_back a.form)
-reading_back (G.Stamp (D.Time a)) = rw (form_back a.form)
-reading_back (G.Stamp (D.TimeTz a)) = rw (form_back a.form)
-reading_back (G.Stamp (D.Datetime a)) = rw (form_back a.form)
-reading_back (G.Stamp (D.DatetimeTz a)) = rw (form_back a.form)
-reading_back (G.Refused r) = rw (refusal_back r)
+decoded_back : (d : Decoded) → under_kind (decoded d) ≡ d
+unfolding under_kind decoded_of
+decoded_back (D.Date a) = rw (form_back a.form)
+decoded_back (D.DateTz a) = rw (form_back a.form)
+decoded_back (D.Time a) = rw (form_back a.form)
+decoded_back (D.TimeTz a) = rw (form_back a.form)
+decoded_back (D.Datetime a) = rw (form_back a.form)
+decoded_back (D.DatetimeTz a) = rw (form_back a.form)
+
+-- what a reader found, where what it means can be undone
+found_of : {T A : Type 0} → (A → T) → Outcome A → Result T Refusal
+found_of g (accepted a) = Ok (g a)
+found_of g (refused n) = Err (refusal_of n)
+
+found_back : {T A : Type 0} (f : T → A) (g : A → T) → ((t : T) → g (f t) ≡ t) → (r : Result T Refusal) → found_of g (outcome f r) ≡ r
+unfolding found_of
+found_back f g b (Ok t) = ap Ok (b t)
+found_back f g b (Err r) = rw (refusal_back r)
 
 -- ---- writers and readers, of all kinds
 
@@ -139,14 +153,25 @@ pub one_left : (o : Outcome (List ℕ)) (lent : List ℕ) (n n' k k' : ℕ) (lef
 one_left o lent n n' k k' left left' p q =
     (p.number ∙ sym q.number, p.count ∙ sym q.count, p.buffer ∙ sym q.buffer)
 
-pub one_writing : (o : Outcome (List ℕ)) (lent : List ℕ) (r r' : Written) (left left' : List ℕ)
+pub one_writing : (o : Outcome (List ℕ)) (lent : List ℕ) (r r' : Result ℕ Refusal) (left left' : List ℕ)
     → Writes o lent r left → Writes o lent r' left' → (r ≡ r') × (left ≡ left')
 one_writing o lent r r' left left' p q =
     let s = one_left o lent _ _ _ _ left left' p q in
     (sym (written_back r) ∙ rw (s.0, s.1) (written_back r'), s.2)
 
 pub one_reading : (o : Outcome format.Answer) → OneAnswer (Reads o)
-one_reading = meaning_one reading reading_of reading_back
+one_reading = meaning_one (outcome decoded) (found_of under_kind) (found_back decoded under_kind decoded_back)
+
+-- the reader of one kind: the kind's own parts of a value are the value
+answer_of : {T : Type 0} → (format.Value → T) → format.Answer → Answer T
+answer_of g a = record { value = g a.value; form = form_of a.form }
+
+answer_back : {T : Type 0} (k : format.Kind) (f : T → format.Value) (g : format.Value → T) → ((v : T) → g (f v) ≡ v) → (a : Answer T) → answer_of g (answered k f a) ≡ a
+unfolding answer_of
+answer_back k f g b a = rw (b a.value, form_back a.form)
+
+pub one_reading_as : {T : Type 0} (k : format.Kind) (f : T → format.Value) (g : format.Value → T) → ((v : T) → g (f v) ≡ v) → (o : Outcome format.Answer) → OneAnswer (ReadsAs k f o)
+one_reading_as k f g b = meaning_one (outcome (answered k f)) (found_of (answer_of g)) (found_back (answered k f) (answer_of g) (answer_back k f g b))
 
 -- a kind that is chosen
 pub one_kind : (k : format.Kind) → OneAnswer (λ (r : Kind). kind_from r ≡ k)
@@ -181,11 +206,35 @@ one_timed k = equal_one _
 pub one_zoned : (k : Kind) → OneAnswer (KindZoned k)
 one_zoned k = equal_one _
 
+found_kind : Outcome format.Kind → Result Kind NoSuchKind
+found_kind (accepted k) = Ok (kind_of k)
+found_kind (refused n) = Err record {}
+
+kind_found_back : (r : Result Kind NoSuchKind) → found_kind (kind_found r) ≡ r
+unfolding found_kind
+kind_found_back (Ok k) = ap Ok (kind_back k)
+kind_found_back (Err e) = refl
+
+pub one_kind_of_number : (n : ℕ) → OneAnswer (KindOfNumber n)
+one_kind_of_number n = meaning_one kind_found found_kind kind_found_back _
+
+pub one_kind_number : (k : Kind) → OneAnswer (KindNumber k)
+one_kind_number k = equal_one _
+
 pub one_rest_in_range : (v : Value) (k : Kind) → OneAnswer (ValueRestInRange v k)
 one_rest_in_range v k = equal_one _
 
 pub one_value_in_range : (v : Value) (k : Kind) → OneAnswer (ValueInRange v k)
 one_value_in_range v k = equal_one _
+
+pub one_decoded_kind : (d : Decoded) → OneAnswer (DecodedKind d)
+one_decoded_kind d = one_kind _
+
+pub one_decoded_form : (d : Decoded) → OneAnswer (DecodedForm d)
+one_decoded_form d = meaning_one form_from form_of form_back _
+
+pub one_decoded_value : (d : Decoded) → OneAnswer (DecodedValue d)
+one_decoded_value d = meaning_one value_from value_of value_back _
 
 pub one_refusal_number : (f : Refusal) → OneAnswer (RefusalNumber f)
 one_refusal_number f = equal_one _

@@ -10,25 +10,33 @@
 --   KindDated k r            `Kind::dated`: whether the kind has a date
 --   KindTimed k r            `Kind::timed`: whether it has a time
 --   KindZoned k r            `Kind::zoned`: whether it has an offset
+--   KindOfNumber n r         `Kind::try_from(number)`: the kind with that number, or none
+--   KindNumber k r           `u32::from(kind)`: its number, 0 to 5
 --   ValueRestInRange v k r   `Value::rest_in_range`: whether time and offset are in range, where the kind has them
 --   ValueInRange v k r       `Value::in_range`: whether each part is that the kind has
---   RefusalNumber f r        `Refusal::number`: 1 to 8
+--   DecodedKind d r          `Decoded::kind`: the kind of a decoded stamp
+--   DecodedForm d r          `Decoded::form`: the form in which it stood
+--   DecodedValue d r         `Decoded::value`: its parts; those that its kind lacks are 0
+--   RefusalNumber f r        `u32::from(refusal)`: 1 to 8
 --   SettingsNew b n d r      `Settings::new`: binary, version and digits, right or wrong
 --   SettingsDefault r        `Settings::default`: text with milliseconds
 --   SettingsForForm f r      `Settings::for_form`: settings under which a value that has the form is written in it
 --   SettingsForm t k v r     `Settings::form`: the form that a value is written in
 --   SettingsInRange t r      `Settings::in_range`: whether there are at most 6 digits
-use Rattle.std.specs.Prelude.{ℕ, ℤ, eqb, ◌≡◌, Bool}
+use Rattle.std.specs.Prelude.{ℕ, ℤ, eqb, ◌≡◌, Bool, Result}
 use Rattle.format.specs.Values as format
 use Rattle.format.specs.Choice.{form_for, settings_for}
 use Rattle.values.specs.declared.parts.Time.{Time}
 use Rattle.values.specs.declared.parts.Offset.{Offset}
 use Rattle.values.specs.declared.kinds.Kind.{Kind}
+use Rattle.values.specs.declared.kinds.NoSuchKind.{NoSuchKind}
 use Rattle.values.specs.declared.kinds.Value.{Value}
+use Rattle.values.specs.declared.answers.Decoded.{Decoded}
 use Rattle.values.specs.declared.refusal.Refusal.{Refusal}
 use Rattle.values.specs.declared.settings.Form.{Form}
 use Rattle.values.specs.declared.settings.Settings.{Settings}
-use Rattle.values.specs.Meaning.{refusal_number, form_from, settings_from, kind_from, value_from}
+use Rattle.values.specs.Meaning.{refusal_number, form_from, settings_from, kind_from, kind_numbered, kind_number, kind_found, value_from}
+use Rattle.values.specs.Answers.{decoded}
 
 -- ---- times
 
@@ -72,6 +80,14 @@ KindTimed k r = r ≡ format.timed (kind_from k)
 abbrev pub KindZoned : Kind → Bool → Type 0
 KindZoned k r = r ≡ format.zoned (kind_from k)
 
+-- the kind with a number
+abbrev pub KindOfNumber : ℕ → Result Kind NoSuchKind → Type 0
+KindOfNumber n r = kind_found r ≡ kind_numbered n
+
+-- the number of a kind
+abbrev pub KindNumber : Kind → ℕ → Type 0
+KindNumber k r = r ≡ kind_number (kind_from k)
+
 -- whether time and offset are in range, where the kind has them
 abbrev pub ValueRestInRange : Value → Kind → Bool → Type 0
 ValueRestInRange v k r = r ≡ format.rest_in_range (kind_from k) (value_from v)
@@ -79,6 +95,20 @@ ValueRestInRange v k r = r ≡ format.rest_in_range (kind_from k) (value_from v)
 -- whether each part is in range that the kind has
 abbrev pub ValueInRange : Value → Kind → Bool → Type 0
 ValueInRange v k r = r ≡ format.in_range (kind_from k) (value_from v)
+
+-- ---- decoded stamps
+
+-- the kind
+abbrev pub DecodedKind : Decoded → Kind → Type 0
+DecodedKind d r = kind_from r ≡ (decoded d).kind
+
+-- the form
+abbrev pub DecodedForm : Decoded → Form → Type 0
+DecodedForm d r = form_from r ≡ (decoded d).form
+
+-- the parts
+abbrev pub DecodedValue : Decoded → Value → Type 0
+DecodedValue d r = value_from r ≡ (decoded d).value
 
 -- ---- refusals
 

@@ -1,80 +1,73 @@
-// What writers and readers answer.
-use crate::{DateTz, Datetime, DatetimeTz, Form, Offset, Refusal, Time, TimeTz, Value};
+// What readers answer beside a refusal. A writer answers how many octets it wrote.
+ghost use Rattle.values.specs.Calls.{DecodedKind, DecodedForm, DecodedValue};
+
+use crate::{DateTz, Datetime, DatetimeTz, Form, Kind, Offset, Stamp, Time, TimeTz, Value};
 use calendar::Date;
 
-// What a writer answers: how many octets it wrote, or why none.
+// What was read: the value, and the form in which it stood. A form's reader answers all parts of it, a `Value`.
 #[derive(Clone, Copy)]
-pub enum Written {
-    Octets(usize),
-    Refused(Refusal),
-}
-
-// What was read, of each kind: the value, and the form in which it stood.
-#[derive(Clone, Copy)]
-pub struct DateAnswer {
-    pub value: Date,
-    pub form: Form,
-}
-
-#[derive(Clone, Copy)]
-pub struct DateTzAnswer {
-    pub value: DateTz,
-    pub form: Form,
-}
-
-#[derive(Clone, Copy)]
-pub struct TimeAnswer {
-    pub value: Time,
-    pub form: Form,
-}
-
-#[derive(Clone, Copy)]
-pub struct TimeTzAnswer {
-    pub value: TimeTz,
-    pub form: Form,
-}
-
-#[derive(Clone, Copy)]
-pub struct DatetimeAnswer {
-    pub value: Datetime,
-    pub form: Form,
-}
-
-#[derive(Clone, Copy)]
-pub struct DatetimeTzAnswer {
-    pub value: DatetimeTz,
+pub struct Answer<T> {
+    pub value: T,
     pub form: Form,
 }
 
 // A decoded stamp, under its kind.
 #[derive(Clone, Copy)]
 pub enum Decoded {
-    Date(DateAnswer),
-    DateTz(DateTzAnswer),
-    Time(TimeAnswer),
-    TimeTz(TimeTzAnswer),
-    Datetime(DatetimeAnswer),
-    DatetimeTz(DatetimeTzAnswer),
+    Date(Answer<Date>),
+    DateTz(Answer<DateTz>),
+    Time(Answer<Time>),
+    TimeTz(Answer<TimeTz>),
+    Datetime(Answer<Datetime>),
+    DatetimeTz(Answer<DatetimeTz>),
 }
 
-// What a reader answers: the stamp, or why there is none.
-#[derive(Clone, Copy)]
-pub enum Reading {
-    Stamp(Decoded),
-    Refused(Refusal),
-}
+impl Decoded {
+    pub fn kind(self) -> Kind
+        ensures { DecodedKind self result }
+    {
+        match self {
+            Decoded::Date(_) => Kind::Date,
+            Decoded::DateTz(_) => Kind::DateTz,
+            Decoded::Time(_) => Kind::Time,
+            Decoded::TimeTz(_) => Kind::TimeTz,
+            Decoded::Datetime(_) => Kind::Datetime,
+            Decoded::DatetimeTz(_) => Kind::DatetimeTz,
+        }
+    }
 
-// What a form's reader hands to `stamp`, whatever the kind: all parts, of which those that the kind lacks are 0. Between our own crates.
-#[derive(Clone, Copy)]
-pub enum Parsed {
-    Stamp(Form, Value),
-    Refused(Refusal),
+    pub fn form(self) -> Form
+        ensures { DecodedForm self result }
+    {
+        match self {
+            Decoded::Date(answer) => answer.form,
+            Decoded::DateTz(answer) => answer.form,
+            Decoded::Time(answer) => answer.form,
+            Decoded::TimeTz(answer) => answer.form,
+            Decoded::Datetime(answer) => answer.form,
+            Decoded::DatetimeTz(answer) => answer.form,
+        }
+    }
+
+    // All parts: those that the kind lacks are 0.
+    pub fn value(self) -> Value
+        ensures { DecodedValue self result }
+    {
+        match self {
+            Decoded::Date(answer) => answer.value.parts(),
+            Decoded::DateTz(answer) => answer.value.parts(),
+            Decoded::Time(answer) => answer.value.parts(),
+            Decoded::TimeTz(answer) => answer.value.parts(),
+            Decoded::Datetime(answer) => answer.value.parts(),
+            Decoded::DatetimeTz(answer) => answer.value.parts(),
+        }
+    }
 }
 
 // What a form's reader hands to `schedule` of a DatetimeTz whose date nobody asks for: its local reading, in microseconds from 0001-01-01T00:00 on its own
-// clock, and its offset. Between our own crates. The refusal stands first, as in the text's cursor: what follows an answer is inlined then.
+// clock, and its offset. Between our own crates.
 #[derive(Clone, Copy)]
-pub enum Located {
-    Refused(Refusal),
-    At(u64, Offset),
+pub struct Located {
+    pub local: u64,
+    pub offset: Offset,
 }

@@ -1,13 +1,12 @@
 // The six kinds of value, and what a value of each has. A `Date` and a `Time` stand for themselves.
 ghost use Rattle.std.specs.Prelude.{◌≡◌};
-ghost use Rattle.format.specs.Words.{needs};
-ghost use Rattle.format.specs.Calendar.{is_day};
-ghost use Rattle.format.specs.Values.{dated, timed, zoned, time_in_range, offset_in_range};
-ghost use Rattle.calendar.specs.Meaning.{day_from};
-ghost use Rattle.values.specs.Meaning.{kind_from};
-ghost use Rattle.values.specs.Calls.{KindDated, KindTimed, KindZoned, ValueRestInRange, ValueInRange};
+ghost use Rattle.format.specs.Values as format;
+ghost use Rattle.format.specs.Keeping.{owned};
+ghost use Rattle.values.specs.Meaning.{kind_from, form_from, value_from, date_value, date_tz_value, time_value, time_tz_value, datetime_value, datetime_tz_value};
+ghost use Rattle.values.specs.Answers.{decoded};
+ghost use Rattle.values.specs.Calls.{KindDated, KindTimed, KindZoned, KindOfNumber, KindNumber, ValueRestInRange, ValueInRange};
 
-use crate::{Offset, Time};
+use crate::{Answer, Decoded, Form, Offset, Time};
 use calendar::Date;
 
 #[derive(Clone, Copy)]
@@ -49,39 +48,55 @@ impl Kind {
     pub fn dated(self) -> bool
         ensures { KindDated self result }
     {
-        match self {
-            Kind::Date => true,
-            Kind::DateTz => true,
-            Kind::Time => false,
-            Kind::TimeTz => false,
-            Kind::Datetime => true,
-            Kind::DatetimeTz => true,
-        }
+        !matches!(self, Kind::Time | Kind::TimeTz)
     }
 
     pub fn timed(self) -> bool
         ensures { KindTimed self result }
     {
-        match self {
-            Kind::Date => false,
-            Kind::DateTz => false,
-            Kind::Time => true,
-            Kind::TimeTz => true,
-            Kind::Datetime => true,
-            Kind::DatetimeTz => true,
-        }
+        !matches!(self, Kind::Date | Kind::DateTz)
     }
 
     pub fn zoned(self) -> bool
         ensures { KindZoned self result }
     {
-        match self {
-            Kind::Date => false,
-            Kind::DateTz => true,
-            Kind::Time => false,
-            Kind::TimeTz => true,
-            Kind::Datetime => false,
-            Kind::DatetimeTz => true,
+        matches!(self, Kind::DateTz | Kind::TimeTz | Kind::DatetimeTz)
+    }
+}
+
+// A number that names no kind.
+#[derive(Clone, Copy)]
+pub struct NoSuchKind;
+
+impl TryFrom<u32> for Kind {
+    type Error = NoSuchKind;
+
+    ghost try_from_gives = { KindOfNumber };
+
+    fn try_from(number: u32) -> Result<Kind, NoSuchKind> {
+        match number {
+            0 => Ok(Kind::Date),
+            1 => Ok(Kind::DateTz),
+            2 => Ok(Kind::Time),
+            3 => Ok(Kind::TimeTz),
+            4 => Ok(Kind::Datetime),
+            5 => Ok(Kind::DatetimeTz),
+            _ => Err(NoSuchKind),
+        }
+    }
+}
+
+impl From<Kind> for u32 {
+    ghost from_gives = { KindNumber };
+
+    fn from(kind: Kind) -> u32 {
+        match kind {
+            Kind::Date => 0,
+            Kind::DateTz => 1,
+            Kind::Time => 2,
+            Kind::TimeTz => 3,
+            Kind::Datetime => 4,
+            Kind::DatetimeTz => 5,
         }
     }
 }
@@ -94,55 +109,209 @@ pub struct Value {
     pub offset: Offset,
 }
 
-// A part is in range where the kind has it; where it lacks it, nothing is asked.
-fn date_fits(kind: Kind, date: Date) -> bool
-    ensures { result ≡ needs (dated (kind_from kind)) (is_day (day_from date)) }
-{
-    if kind.dated() {
-        return date.in_range();
-    }
-    true
-}
-
-fn time_fits(kind: Kind, time: Time) -> bool
-    ensures { result ≡ needs (timed (kind_from kind)) (time_in_range time.micros) }
-{
-    if kind.timed() {
-        return time.in_range();
-    }
-    true
-}
-
-fn offset_fits(kind: Kind, offset: Offset) -> bool
-    ensures { result ≡ needs (zoned (kind_from kind)) (offset_in_range offset.minutes) }
-{
-    if kind.zoned() {
-        return offset.in_range();
-    }
-    true
-}
-
 impl Value {
     // Whether time and offset are, where the kind has them: what is left to test where the date's day number is asked for.
     pub fn rest_in_range(self, kind: Kind) -> bool
         ensures { ValueRestInRange self kind result }
     {
-        let time = self.time;
-        let offset = self.offset;
-        if !time_fits(kind, time) {
-            return false;
-        }
-        offset_fits(kind, offset)
+        (!kind.timed() || self.time.in_range()) && (!kind.zoned() || self.offset.in_range())
     }
 
     // Whether each part that the kind has is in its range.
     pub fn in_range(self, kind: Kind) -> bool
         ensures { ValueInRange self kind result }
     {
-        let date = self.date;
-        if !date_fits(kind, date) {
-            return false;
+        (!kind.dated() || self.date.in_range()) && self.rest_in_range(kind)
+    }
+}
+
+// What the six kinds have in common, so that a call is written once for all of them, and compiled for each by itself.
+pub trait Stamp: Copy {
+    ghost kind: { format.Kind };
+
+    ghost value: { Self → format.Value };
+
+    fn kind() -> Kind
+        ensures { kind_from result ≡ kind };
+
+    // All parts: those that the kind lacks are 0.
+    fn parts(self) -> Value
+        ensures { value_from result ≡ value self };
+
+    // The value that has these parts: those that the kind lacks are not looked at.
+    fn of(parts: Value) -> Self
+        ensures { value result ≡ owned kind (value_from parts) };
+
+    // What was read, under the kind.
+    fn decoded(self, form: Form) -> Decoded
+        ensures { decoded result ≡ record { kind = kind; form = form_from form; value = value self } };
+}
+
+impl Stamp for Date {
+    ghost kind = { format.Date };
+
+    ghost value = { date_value };
+
+    fn kind() -> Kind {
+        Kind::Date
+    }
+
+    fn parts(self) -> Value {
+        Value {
+            date: self,
+            time: Time::new(0),
+            offset: Offset::new(0),
         }
-        self.rest_in_range(kind)
+    }
+
+    fn of(parts: Value) -> Date {
+        parts.date
+    }
+
+    fn decoded(self, form: Form) -> Decoded {
+        Decoded::Date(Answer { value: self, form })
+    }
+}
+
+impl Stamp for DateTz {
+    ghost kind = { format.DateTz };
+
+    ghost value = { date_tz_value };
+
+    fn kind() -> Kind {
+        Kind::DateTz
+    }
+
+    fn parts(self) -> Value {
+        Value {
+            date: self.date,
+            time: Time::new(0),
+            offset: self.offset,
+        }
+    }
+
+    fn of(parts: Value) -> DateTz {
+        DateTz {
+            date: parts.date,
+            offset: parts.offset,
+        }
+    }
+
+    fn decoded(self, form: Form) -> Decoded {
+        Decoded::DateTz(Answer { value: self, form })
+    }
+}
+
+impl Stamp for Time {
+    ghost kind = { format.Time };
+
+    ghost value = { time_value };
+
+    fn kind() -> Kind {
+        Kind::Time
+    }
+
+    fn parts(self) -> Value {
+        Value {
+            date: Date::new(0, 0, 0),
+            time: self,
+            offset: Offset::new(0),
+        }
+    }
+
+    fn of(parts: Value) -> Time {
+        parts.time
+    }
+
+    fn decoded(self, form: Form) -> Decoded {
+        Decoded::Time(Answer { value: self, form })
+    }
+}
+
+impl Stamp for TimeTz {
+    ghost kind = { format.TimeTz };
+
+    ghost value = { time_tz_value };
+
+    fn kind() -> Kind {
+        Kind::TimeTz
+    }
+
+    fn parts(self) -> Value {
+        Value {
+            date: Date::new(0, 0, 0),
+            time: self.time,
+            offset: self.offset,
+        }
+    }
+
+    fn of(parts: Value) -> TimeTz {
+        TimeTz {
+            time: parts.time,
+            offset: parts.offset,
+        }
+    }
+
+    fn decoded(self, form: Form) -> Decoded {
+        Decoded::TimeTz(Answer { value: self, form })
+    }
+}
+
+impl Stamp for Datetime {
+    ghost kind = { format.Datetime };
+
+    ghost value = { datetime_value };
+
+    fn kind() -> Kind {
+        Kind::Datetime
+    }
+
+    fn parts(self) -> Value {
+        Value {
+            date: self.date,
+            time: self.time,
+            offset: Offset::new(0),
+        }
+    }
+
+    fn of(parts: Value) -> Datetime {
+        Datetime {
+            date: parts.date,
+            time: parts.time,
+        }
+    }
+
+    fn decoded(self, form: Form) -> Decoded {
+        Decoded::Datetime(Answer { value: self, form })
+    }
+}
+
+impl Stamp for DatetimeTz {
+    ghost kind = { format.DatetimeTz };
+
+    ghost value = { datetime_tz_value };
+
+    fn kind() -> Kind {
+        Kind::DatetimeTz
+    }
+
+    fn parts(self) -> Value {
+        Value {
+            date: self.date,
+            time: self.time,
+            offset: self.offset,
+        }
+    }
+
+    fn of(parts: Value) -> DatetimeTz {
+        DatetimeTz {
+            date: parts.date,
+            time: parts.time,
+            offset: parts.offset,
+        }
+    }
+
+    fn decoded(self, form: Form) -> Decoded {
+        Decoded::DatetimeTz(Answer { value: self, form })
     }
 }

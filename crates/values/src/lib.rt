@@ -8,11 +8,8 @@ mod parts;
 mod refusal;
 mod settings;
 
-pub use answers::{
-    DateAnswer, DateTzAnswer, DatetimeAnswer, DatetimeTzAnswer, Decoded, Located, Parsed, Reading,
-    TimeAnswer, TimeTzAnswer, Written,
-};
-pub use kinds::{DateTz, Datetime, DatetimeTz, Kind, TimeTz, Value};
+pub use answers::{Answer, Decoded, Located};
+pub use kinds::{DateTz, Datetime, DatetimeTz, Kind, NoSuchKind, Stamp, TimeTz, Value};
 pub use parts::{Offset, Time};
 pub use refusal::Refusal;
 pub use settings::{Form, Settings};

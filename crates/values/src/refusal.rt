@@ -22,11 +22,11 @@ pub enum Refusal {
     Range,
 }
 
-impl Refusal {
-    pub fn number(self) -> u32
-        ensures { RefusalNumber self result }
-    {
-        match self {
+impl From<Refusal> for u32 {
+    ghost from_gives = { RefusalNumber };
+
+    fn from(refusal: Refusal) -> u32 {
+        match refusal {
             Refusal::Digits => 1,
             Refusal::Value => 2,
             Refusal::NoCompact => 3,

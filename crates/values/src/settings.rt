@@ -19,6 +19,19 @@ pub struct Settings {
     pub digits: u32,
 }
 
+// Text with milliseconds.
+impl Default for Settings {
+    ghost is_default = { SettingsDefault };
+
+    fn default() -> Settings {
+        Settings {
+            binary: false,
+            version: 0,
+            digits: 3,
+        }
+    }
+}
+
 impl Settings {
     pub const MAX_DIGITS: u32 = 6;
     // The first version that knows the extended form.
@@ -31,17 +44,6 @@ impl Settings {
             binary,
             version,
             digits,
-        }
-    }
-
-    // Text with milliseconds.
-    pub fn default() -> Settings
-        ensures { SettingsDefault result }
-    {
-        Settings {
-            binary: false,
-            version: 0,
-            digits: 3,
         }
     }
 
@@ -76,8 +78,7 @@ impl Settings {
         if digits == Settings::MAX_DIGITS {
             return Form::Extended;
         }
-        let time = value.time;
-        if time.is_end_of_day() {
+        if value.time.is_end_of_day() {
             return Form::Extended;
         }
         Form::Compact

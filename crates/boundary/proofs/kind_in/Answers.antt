@@ -9,7 +9,7 @@ use Rattle.boundary.proofs.kind_in.Goals as goal
 pub returns-then-number-lt6 : goal.returns-then-number-lt6
 returns-then-number-lt6 c =
     let h = c.if-number-lt6.true in
-    reading_at_lem _ _ _ (λ e. omega (arith, h)) (λ e. omega (arith, h)) (λ e. omega (arith, h)) c.kind_of.ensures
+    reading_at_lem _ _ _ (λ e. omega (arith, h)) (λ e. omega (arith, h)) (λ e. omega (arith, h)) c.try_from.ensures
 
 pub returns-in-6 : goal.returns-in-6
 unfolding reading_of read_either

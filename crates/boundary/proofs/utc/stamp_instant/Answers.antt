@@ -1,4 +1,4 @@
--- `stamp_instant` meets its contract: what `instant_of` answers, handed over. Assumes nothing.
+-- `stamp_instant` meets its contract: what `Instant::try_from` answers, handed over. Assumes nothing.
 use mathlib.Core.Path.{◌≡◌, ◌∙◌}
 use mir.Facts.{to_z-of_z}
 use Rattle.moments.specs.Calls.{instant}
@@ -6,12 +6,12 @@ use Rattle.instants.specs.Meaning.{found}
 use Rattle.boundary.proofs.utc.stamp_instant.Goals as goal
 use Rattle.boundary.proofs.utc.stamp_instant.Goals.{After-hand_instant}
 
--- what `instant_of` was asked for
+-- what `Instant::try_from` was asked for
 answered : (c : After-hand_instant)
     → (let a = c.args in
-    found c.instant_of.result
+    found c.try_from.result
     ≡ instant (record { date = record { year = a.year; month = a.month; day = a.day }; micros = a.micros; offset = a.offset }))
-answered c = c.instant_of.ensures ∙ rw (c.stamp_by_parts-stamp.ensures, to_z-of_z c.ranges.offset)
+answered c = c.try_from.ensures ∙ rw (c.stamp_by_parts-stamp.ensures, to_z-of_z c.ranges.offset)
 
 pub returns : goal.returns
 returns c = rw (← answered (goal.at.returns c).After-hand_instant) c.hand_instant.ensures

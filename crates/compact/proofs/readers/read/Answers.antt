@@ -1,16 +1,17 @@
--- `read` meets its contract: the length first, then what was taken. Assumes nothing.
-use mathlib.Core.Path.{sym, ◌∙◌}
-use Rattle.format.proofs.Cases.{not_true, not_false}
-use Rattle.compact.proofs.ReadingSteps.{no_length, by_taken}
+-- `read` meets its contract. Assumes nothing.
+use mathlib.Core.Path.{◌≡◌, ap}
+use borrow.Author.Rules.{rules}
+use Rattle.std.specs.Prelude.{Err}
+use Rattle.format.specs.Values as format
+use Rattle.format.specs.Reading.{answer, read_in}
 use Rattle.compact.proofs.readers.read.Goals as goal
 
-pub returns-then-not-has_length : goal.returns-then-not-has_length
-returns-then-not-has_length c = sym (no_length _ _ (sym c.has_length.ensures ∙ not_true _ c.if-not-has_length.true-raw))
-
-pub take-requires : goal.take-requires
-take-requires c = sym c.has_length.ensures ∙ not_false _ c.if-not-has_length.false-raw
+pub returns-in_err-counted : goal.returns-in_err-counted
+unfolding read_in
+returns-in_err-counted g c =
+    let e : c.from_residual.result ≡ Err c.in_err-counted.field-0.0 = search rules in
+    rw (e, ← c.kind.ensures) (ap (answer _ format.compact) c.in_err-counted.ensures.value)
 
 pub returns : goal.returns
-returns c =
-    let t = c in
-    c.answer.ensures ∙ sym (by_taken _ _ _ (sym t.has_length.ensures ∙ not_false _ t.if-not-has_length.false-raw) t.take.ensures)
+unfolding read_in
+returns g c = rw (← c.kind.ensures, c.value.ensures) (ap (answer _ format.compact) c.in_ok-counted.ensures.value)

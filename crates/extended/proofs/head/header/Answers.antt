@@ -8,9 +8,6 @@ use Rattle.extended.proofs.head.header.Goals as goal
 pub overflow_mul-result : goal.overflow_mul-result
 overflow_mul-result c = rw c.head_bits.ensures (record { fits = omega (arith, head_small (kind_from c.args.kind)) })
 
-pub overflow_cast-result-2 : goal.overflow_cast-result-2
-overflow_cast-result-2 c = rw c.twelve_bits.ensures (record { fits = omega (arith, any_bits_lt (kind_from c.args.kind) c.args.offset.minutes) })
-
 pub overflow_add-result : goal.overflow_add-result
 overflow_add-result c =
     let a = c.args in

@@ -1,54 +1,37 @@
--- `locate_datetime_tz` meets its contract: the tests in the order of their numbers, each with what it tells. Assumes nothing.
-use mathlib.Core.Path.{◌≡◌, refl, sym, ◌∙◌, ap}
-use mathlib.Core.Bool.{true}
-use mathlib.Core.List.{List}
-use Prim.Native.Nat.{ℕ, ◌≤◌}
+-- `locate_datetime_tz` meets its contract: the parts in their order, a refusal at each. Assumes nothing.
+use mathlib.Core.Path.{refl, ap}
 use native.Mathlib.Omega.{arith}
-use borrow.Author.Tests.{le-leb, lt-leb, leb-true}
-use Rattle.format.specs.Values.{DatetimeTz, end_of_day, time_in_range}
-use Rattle.format.specs.Octets.{unsigned_at}
-use Rattle.format.proofs.Cases.{not_true, not_false}
+use borrow.Author.Tests.{le-leb, lt-leb}
+use Rattle.format.specs.Extended.{day_width}
 use Rattle.values.specs.Answers.{local_in}
-use Rattle.extended.proofs.Coming.{Stands, with_day, wrong_length, wrong_offset, wrong_time, wrong_day, located_there}
+use Rattle.extended.proofs.Coming.{handed_on, wrong_length, header_refused, time_refused, day_refused, time_few, located_there}
 use Rattle.extended.proofs.readers.locate_datetime_tz.Goals as goal
-use Rattle.extended.proofs.readers.locate_datetime_tz.Goals.{Else-not-in_range-2}
-
--- where the parts stand
-abbrev parts : (s : List ℕ) → Stands DatetimeTz s 10 (unsigned_at s 2 3) (unsigned_at s 5 5)
-parts s = with_day DatetimeTz s refl
-
--- the time is in its range, so it is few microseconds
-time-fits : (c : Else-not-in_range-2) → time_in_range c.before.before.time_of_day_in-time.result.micros ≡ true
-time-fits c = sym c.before.in_range-2.ensures ∙ not_false _ c.if-not-in_range-2.false-raw
-
-time-few : (c : Else-not-in_range-2) → c.before.before.time_of_day_in-time.result.micros ≤ end_of_day
-unfolding time_in_range
-time-few c = leb-true c.before.before.time_of_day_in-time.result.micros end_of_day (time-fits c)
 
 pub returns-then-s-ne-DATETIME_LENGTH : goal.returns-then-s-ne-DATETIME_LENGTH
-returns-then-s-ne-DATETIME_LENGTH c = ap local_in (wrong_length DatetimeTz _ 10 _ _ (parts c.args.s.now) c.if-s-ne-DATETIME_LENGTH.true)
+unfolding day_width
+returns-then-s-ne-DATETIME_LENGTH c = ap local_in (wrong_length _ _ c.if-s-ne-DATETIME_LENGTH.true)
 
-pub returns-then-not-in_range : goal.returns-then-not-in_range
-returns-then-not-in_range c = ap local_in (wrong_offset DatetimeTz _ 10 _ _ (parts c.args.s.now) c.if-s-ne-DATETIME_LENGTH.false refl (rw c.offset_in-offset.ensures at (sym c.in_range.ensures ∙ not_true _ c.if-not-in_range.true-raw)))
+pub returns-in_err-offset : goal.returns-in_err-offset
+unfolding day_width
+returns-in_err-offset c =
+    handed_on _ _ _ _ c.from_residual.ensures.1 (ap local_in (header_refused _ _ c.if-s-ne-DATETIME_LENGTH.false _ c.in_err-offset.ensures))
 
-pub returns-then-not-in_range-2 : goal.returns-then-not-in_range-2
-returns-then-not-in_range-2 c = ap local_in (wrong_time DatetimeTz _ 10 _ _ (parts c.args.s.now) c.if-s-ne-DATETIME_LENGTH.false refl (rw c.time_of_day_in-time.ensures at (sym c.in_range-2.ensures ∙ not_true _ c.if-not-in_range-2.true-raw)))
+pub returns-in_err-time : goal.returns-in_err-time
+unfolding day_width
+returns-in_err-time c =
+    handed_on _ _ _ _ c.from_residual-in_err-time.ensures.1 (ap local_in (time_refused _ _ c.if-s-ne-DATETIME_LENGTH.false _ c.in_ok-offset.ensures _ c.in_err-time.ensures))
 
 pub returns-then-day-gt-LAST_NUMBER : goal.returns-then-day-gt-LAST_NUMBER
-returns-then-day-gt-LAST_NUMBER c = ap local_in (wrong_day DatetimeTz _ 10 _ _ (parts c.args.s.now) c.if-s-ne-DATETIME_LENGTH.false refl (rw c.day_in-day.ensures at (lt-leb _ _ c.if-day-gt-LAST_NUMBER.true)))
+unfolding day_width
+returns-then-day-gt-LAST_NUMBER c =
+    ap local_in (day_refused _ _ c.if-s-ne-DATETIME_LENGTH.false _ c.in_ok-offset.ensures (rw c.day_in-day.ensures at (lt-leb _ _ c.if-day-gt-LAST_NUMBER.true)))
 
 pub overflow_add-result : goal.overflow_add-result
-overflow_add-result c = record { fits = omega (arith, time-few (goal.at.overflow_add-result c).Else-not-in_range-2, c.if-day-gt-LAST_NUMBER.false) }
+overflow_add-result c = record { fits = omega (arith, time_few _ _ _ c.in_ok-time.ensures, c.if-day-gt-LAST_NUMBER.false) }
 
 pub returns : goal.returns
+unfolding day_width
 returns c =
-    let d = c in
-    let t = d in
-    let o = t in
-    let l = o in
-    rw (d.day_in-day.ensures, t.time_of_day_in-time.ensures, o.offset_in-offset.ensures)
-    (located_there DatetimeTz l.args.s.now 10 _ _ (parts l.args.s.now) l.if-s-ne-DATETIME_LENGTH.false refl
-    (rw o.offset_in-offset.ensures at (sym t.in_range.ensures ∙ not_false _ t.if-not-in_range.false-raw))
-    (rw d.day_in-day.ensures at (le-leb _ _ c.if-day-gt-LAST_NUMBER.false))
-    (rw t.time_of_day_in-time.ensures at (time-fits (goal.at.returns c).Else-not-in_range-2))
-    refl)
+    rw c.day_in-day.ensures
+    (located_there _ _ c.if-s-ne-DATETIME_LENGTH.false _ c.in_ok-offset.ensures _ c.in_ok-time.ensures
+    (rw c.day_in-day.ensures at (le-leb _ _ c.if-day-gt-LAST_NUMBER.false)) refl)

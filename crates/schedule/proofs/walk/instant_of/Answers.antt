@@ -5,25 +5,25 @@ use mir.Facts.{to_z-of_z}
 use borrow.Author.Rules.{sfits_of}
 use lib.IntN.{negsuc}
 use Rattle.format.specs.Octets.{Octets}
-use Rattle.schedule.specs.declared.walk.Walk.TheVariants as W
+use Rattle.std.specs.Prelude.{Ok, Err}
 use Rattle.schedule.specs.Steps.{alone, Runs}
 use Rattle.schedule.proofs.Endings.{alone_instant, alone_never}
 use borrow.Author.Rules.{rules}
 use Rattle.schedule.proofs.walk.instant_of.Goals as goal
 
-pub returns-in-Ended : goal.returns-in-Ended
-returns-in-Ended c =
+pub returns-in-Ok : goal.returns-in-Ok
+returns-in-Ok c =
     let a = c.args in
     let s = a.file.now in
     let o : Octets s = λ k. omega (arith, c.type_inv.file k) in
-    let w : Runs s (negsuc 9223372036854775807) a.i (alone s a.i) (W.Ended c.in-Ended.ended) = rw (c.in-Ended.is, c.requires.2) at c.run.ensures in
-    rw (to_z-of_z {w = w64} {z = c.in-Ended.ended.instant} (sfits_of (search rules)))
-    (alone_instant s o a.i (omega (arith, c.requires.1, c.requires.0.records)) c.requires.3 c.in-Ended.ended w)
+    let w : Runs s (negsuc 9223372036854775807) a.i (alone s a.i) (Ok c.in-Ok.ended) = rw (c.in-Ok.is, c.requires.2) at c.run.ensures in
+    rw (to_z-of_z {w = w64} {z = c.in-Ok.ended.instant} (sfits_of (search rules)))
+    (alone_instant s o a.i (omega (arith, c.requires.1, c.requires.0.records)) c.requires.3 c.in-Ok.ended w)
 
-pub returns-in-Refused : goal.returns-in-Refused
-returns-in-Refused c =
+pub returns-in-Err : goal.returns-in-Err
+returns-in-Err c =
     let a = c.args in
     let s = a.file.now in
     let o : Octets s = λ k. omega (arith, c.type_inv.file k) in
-    let w : Runs s (negsuc 9223372036854775807) a.i (alone s a.i) (W.Refused c.in-Refused.field-0 c.in-Refused.field-1) = rw (c.in-Refused.is, c.requires.2) at c.run.ensures in
-    alone_never s o a.i (omega (arith, c.requires.1, c.requires.0.records)) c.requires.3 c.in-Refused.field-0 c.in-Refused.field-1 w
+    let w : Runs s (negsuc 9223372036854775807) a.i (alone s a.i) (Err c.in-Err.field-0) = rw (c.in-Err.is, c.requires.2) at c.run.ensures in
+    alone_never s o a.i (omega (arith, c.requires.1, c.requires.0.records)) c.requires.3 c.in-Err.field-0 w

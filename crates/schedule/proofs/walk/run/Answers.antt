@@ -1,5 +1,5 @@
 -- `run` meets its contract: each turn passes one record more, and what is left comes to the same. Assumes nothing.
-use mathlib.Core.Path.{◌≡◌, refl, sym, ap, ◌∙◌}
+use mathlib.Core.Path.{◌≡◌, sym, ap, ◌∙◌}
 use mathlib.Core.Bool.{not}
 use Prim.Native.Nat.{suc, ◌+◌, ◌<◌}
 use native.Mathlib.Omega.{arith}
@@ -11,37 +11,24 @@ use Rattle.card.specs.Header.{count_of}
 use Rattle.schedule.specs.Steps.{before_from, taken}
 use Rattle.schedule.proofs.Ranges.{late, in_order_lem}
 use Rattle.schedule.proofs.Walking.{step_took, step_bad, taken_is, taken_small}
-use Rattle.schedule.proofs.Endings.{end_all, end_bad, end_stop, Far, far_front, far_on, stands_all, stands_late, turned}
+use Rattle.schedule.proofs.Endings.{end_all, end_bad, end_stop, Far, far_on, stands_all, stands_late, turned}
 use Rattle.schedule.proofs.walk.run.Goals as goal
-
-pub loop-i-init : goal.loop-i-init
-loop-i-init c = (
-  far_front c.args.file.now _ c.args.from _ (omega (arith, c.requires.1, c.requires.0.records)),
-  refl,
-)
-
-pub step-requires : goal.step-requires
-step-requires c =
-    let some_left : c.loop-i.i < c.args.regions.records = omega arith in
-    (c.requires.0, some_left)
 
 pub returns-then-until-taken : goal.returns-then-until-taken
 returns-then-until-taken c =
     let octets : Octets c.args.file.now = λ k. omega (arith, c.type_inv.file k) in
     let some_left : c.loop-i.i < c.args.regions.records = omega arith in
     let below : c.loop-i.i < count_of c.args.file.now = omega (arith, some_left, c.requires.0.records) in
-    let far : (let r = c in Far r.args.file.now r.args.until r.args.from c.loop-i.i c.loop-i.before.last) = let r = c in rw (to_z-of_z {w = w64} {z = r.args.until} r.ranges.until) at c.loop-i.invariant.0 in
-    let r = c in
-    let w = c in
-    let a = r.args in
+    let far : Far c.args.file.now c.args.until c.args.from c.loop-i.i c.loop-i.before.last = rw (to_z-of_z {w = w64} {z = c.args.until} c.ranges.until) at c.loop-i.invariant.0 in
+    let a = c.args in
     let s = a.file.now in
     let l = c.loop-i in
-    let t = c.in-Taken.taken in
+    let t = c.in-Ok.taken in
     let b = before_from l.before in
     let k : l.i + 1 ≡ suc l.i = omega arith in
-    let u = late a.until t.instant r.ranges.until (sfits_of (search rules)) c.if-until-taken.true in
-    let e = step_took s l.i b t _ c.in-Taken.is c.step.ensures in
-    let v = rw (to_z-of_z {w = w64} {z = a.until} r.ranges.until) at l.invariant.1 in
+    let u = late a.until t.instant c.ranges.until (sfits_of (search rules)) c.if-until-taken.true in
+    let e = step_took s l.i b t _ c.in-Ok.is c.step.ensures in
+    let v = rw (to_z-of_z {w = w64} {z = a.until} c.ranges.until) at l.invariant.1 in
     rw (to_z-of_z {w = w64} {z = l.before.last} (sfits_of (search rules)), to_z-of_z {w = w64} {z = t.instant} (sfits_of (search rules))) (
       stands_late s a.until a.from octets l.i _ far b t e below u,
       rw k (sym v ∙ end_stop s a.until (count_of s) l.i b (taken l.i t) below e (ap not u)),
@@ -52,9 +39,9 @@ end-requires c =
     let octets : Octets c.args.file.now = λ k. omega (arith, c.type_inv.file k) in
     let s = c.args.file.now in
     let l = c.loop-i in
-    let t = c.in-Taken.taken in
+    let t = c.in-Ok.taken in
     let b = before_from l.before in
-    let e = step_took s l.i b t _ c.in-Taken.is c.step.ensures in
+    let e = step_took s l.i b t _ c.in-Ok.is c.step.ensures in
     taken_small s l.i t octets (taken_is s l.i b t e)
 
 pub loop-i-preserved : goal.loop-i-preserved
@@ -62,30 +49,28 @@ loop-i-preserved c =
     let octets : Octets c.args.file.now = λ k. omega (arith, c.type_inv.file k) in
     let some_left : c.loop-i.i < c.args.regions.records = omega arith in
     let below : c.loop-i.i < count_of c.args.file.now = omega (arith, some_left, c.requires.0.records) in
-    let far : (let r = c in Far r.args.file.now r.args.until r.args.from c.loop-i.i c.loop-i.before.last) = let r = c in rw (to_z-of_z {w = w64} {z = r.args.until} r.ranges.until) at c.loop-i.invariant.0 in
-    let r = c in
-    let w = c in
-    let a = r.args in
+    let far : Far c.args.file.now c.args.until c.args.from c.loop-i.i c.loop-i.before.last = rw (to_z-of_z {w = w64} {z = c.args.until} c.ranges.until) at c.loop-i.invariant.0 in
+    let a = c.args in
     let s = a.file.now in
     let l = c.loop-i in
-    let t = c.in-Taken.taken in
+    let t = c.in-Ok.taken in
     let b = before_from l.before in
-    let e = step_took s l.i b t _ c.in-Taken.is c.step.ensures in
-    let u = in_order_lem a.until t.instant r.ranges.until (sfits_of (search rules)) c.if-until-taken.false in
-    let v = rw (to_z-of_z {w = w64} {z = a.until} r.ranges.until) at l.invariant.1 in
-    rw (c.end.ensures, to_z-of_z {w = w64} {z = a.until} r.ranges.until, to_z-of_z {w = w64} {z = t.instant} (sfits_of (search rules))) (
+    let e = step_took s l.i b t _ c.in-Ok.is c.step.ensures in
+    let u = in_order_lem a.until t.instant c.ranges.until (sfits_of (search rules)) c.if-until-taken.false in
+    let v = rw (to_z-of_z {w = w64} {z = a.until} c.ranges.until) at l.invariant.1 in
+    rw (c.end.ensures, to_z-of_z {w = w64} {z = a.until} c.ranges.until, to_z-of_z {w = w64} {z = t.instant} (sfits_of (search rules))) (
       far_on s a.until a.from octets l.i _ far b t e below u,
       turned s a.until a.from octets l.i _ far b t e below u ∙ v,
     )
 
-pub returns-in-Refused : goal.returns-in-Refused
-returns-in-Refused c =
+pub returns-in-Err : goal.returns-in-Err
+returns-in-Err c =
     let some_left : c.loop-i.i < c.args.regions.records = omega arith in
     let below : c.loop-i.i < count_of c.args.file.now = omega (arith, some_left, c.requires.0.records) in
     let s = c.args.file.now in
     let l = c.loop-i in
     let k : l.i + 1 ≡ suc l.i = omega arith in
-    let e = step_bad s l.i (before_from l.before) _ _ c.in-Refused.is c.step.ensures in
+    let e = step_bad s l.i (before_from l.before) _ _ c.in-Err.is c.step.ensures in
     rw k
     (sym (rw (to_z-of_z {w = w64} {z = c.args.until} c.ranges.until) at l.invariant.1)
     ∙ end_bad s c.args.until (count_of s) l.i (before_from l.before) _ below e)
@@ -95,7 +80,8 @@ returns c =
     let s = c.args.file.now in
     let l = c.loop-i in
     let f : Far s c.args.until c.args.from l.i l.before.last = rw (to_z-of_z {w = w64} {z = c.args.until} c.ranges.until) at l.invariant.0 in
-    rw (to_z-of_z {w = w64} {z = l.before.last} (sfits_of (search rules))) (
+    let z : c.args.regions.records ≡ l.i = omega arith in
+    rw (to_z-of_z {w = w64} {z = l.before.last} (sfits_of (search rules)), z) (
       stands_all s c.args.until c.args.from l.i l.before.last f,
       sym (rw (to_z-of_z {w = w64} {z = c.args.until} c.ranges.until) at l.invariant.1)
           ∙ end_all s c.args.until (count_of s) l.i (before_from l.before) (omega (arith, c.requires.0.records)),

@@ -13,6 +13,3 @@ invariant-loop-i l =
     Far l.file l.until l.from l.i l.before.last
     × (ending l.i (walk twelve l.file (later l.until) l.i (count_of l.file - l.i) (before_from l.before))
     ≡ ending l.from (walk twelve l.file (later l.until) l.from (count_of l.file - l.from) (before_from l.initial.before)))
-
-abbrev pub decreases-loop-i : goal.decreases-loop-i
-decreases-loop-i l = l.records - l.i

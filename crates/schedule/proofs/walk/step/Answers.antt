@@ -16,6 +16,8 @@ use Rattle.schedule.specs.Steps.{fields_in, right, instant_in, timed}
 use Rattle.schedule.proofs.Ranges.{late, in_order_lem}
 use Rattle.schedule.proofs.Stepping.{fields_small, record_fits, stamp_fits, step_bad, step_refused, step_timed}
 use borrow.Author.Rules.{rules, sfits_of}
+use Rattle.std.specs.Prelude.{Err}
+use Rattle.schedule.specs.declared.Refusal.TheVariants as R
 use Rattle.schedule.proofs.walk.step.Goals as goal
 use Rattle.schedule.proofs.walk.step.Goals.{After-instant_at, Else-not-are_right}
 
@@ -37,10 +39,10 @@ returns-then-not-are_right c =
     let a = c.args in
     sym (step_bad a.file.now a.regions c.requires.0 a.i a.before (rw c.fields_at-fields.ensures at (sym c.are_right.ensures ∙ not_true _ c.if-not-are_right.true-raw)))
 
-pub overflow_add-stamps : goal.overflow_add-stamps
-overflow_add-stamps c =
+pub overflow_add-regions : goal.overflow_add-regions
+overflow_add-regions c =
     let a = c.args in
-    let f = stamp_fits a.file.now a.regions c.requires.0 a.i a.before (right-fields (goal.at.overflow_add-stamps c).Else-not-are_right) in
+    let f = stamp_fits a.file.now a.regions c.requires.0 a.i a.before (right-fields (goal.at.overflow_add-regions c).Else-not-are_right) in
     rw c.fields_at-fields.ensures (record { fits = omega (arith, f) })
 
 pub instant_at-requires : goal.instant_at-requires
@@ -48,23 +50,24 @@ instant_at-requires c =
     let a = c.args in
     rw c.fields_at-fields.ensures (stamp_fits a.file.now a.regions c.requires.0 a.i a.before (right-fields (goal.at.instant_at-requires c).Else-not-are_right))
 
-pub returns-then-instant-last : goal.returns-then-instant-last
-returns-then-instant-last c =
+pub returns-then-instant-before : goal.returns-then-instant-before
+returns-then-instant-before c =
     let a = c.args in
-    let e = ap timed (sym c.in-At.is) ∙ read-stamp (goal.at.returns-then-instant-last c).After-instant_at in
-    let o = late c.in-At.instant a.before.last (sfits_of (search rules)) (sfits_of (search rules)) c.if-instant-last.true in
-    rw o at (sym (step_timed a.file.now a.regions c.requires.0 a.i a.before c.in-At.instant (right-fields (goal.at.returns-then-instant-last c).Else-not-are_right) (sym e)))
+    let e = ap timed (sym c.in_ok-instant.was) ∙ read-stamp (goal.at.returns-then-instant-before c).After-instant_at in
+    let o = late c.in_ok-instant.instant a.before.last (sfits_of (search rules)) (sfits_of (search rules)) c.if-instant-before.true in
+    rw o at (sym (step_timed a.file.now a.regions c.requires.0 a.i a.before c.in_ok-instant.instant (right-fields (goal.at.returns-then-instant-before c).Else-not-are_right) (sym e)))
 
-pub returns-else-instant-last : goal.returns-else-instant-last
-returns-else-instant-last c =
+pub returns : goal.returns
+returns c =
     let a = c.args in
-    let e = ap timed (sym c.in-At.is) ∙ read-stamp (goal.at.returns-else-instant-last c).After-instant_at in
-    let o = in_order_lem c.in-At.instant a.before.last (sfits_of (search rules)) (sfits_of (search rules)) c.if-instant-last.false in
-    rw (c.fields_at-fields.ensures, to_z-of_z {w = w64} {z = c.in-At.instant} (sfits_of (search rules)))
-    (rw o at (sym (step_timed a.file.now a.regions c.requires.0 a.i a.before c.in-At.instant (right-fields (goal.at.returns-else-instant-last c).Else-not-are_right) (sym e))))
+    let e = ap timed (sym c.in_ok-instant.was) ∙ read-stamp (goal.at.returns c).After-instant_at in
+    let o = in_order_lem c.in_ok-instant.instant a.before.last (sfits_of (search rules)) (sfits_of (search rules)) c.if-instant-before.false in
+    rw (c.fields_at-fields.ensures, to_z-of_z {w = w64} {z = c.in_ok-instant.instant} (sfits_of (search rules)))
+    (rw o at (sym (step_timed a.file.now a.regions c.requires.0 a.i a.before c.in_ok-instant.instant (right-fields (goal.at.returns c).Else-not-are_right) (sym e))))
 
-pub returns-in-Refused : goal.returns-in-Refused
-returns-in-Refused c =
+pub returns-in_err-instant : goal.returns-in_err-instant
+returns-in_err-instant c =
     let a = c.args in
-    let e = ap timed (sym c.in-Refused.is) ∙ read-stamp (goal.at.returns-in-Refused c).After-instant_at in
-    sym (step_refused a.file.now a.regions c.requires.0 a.i a.before _ (right-fields (goal.at.returns-in-Refused c).Else-not-are_right) (sym e))
+    let e = ap timed (sym c.in_err-instant.was) ∙ read-stamp (goal.at.returns-in_err-instant c).After-instant_at in
+    let r : c.from_residual.result ≡ Err (R.Base c.in_err-instant.field-0.0) = search rules in
+    rw r (sym (step_refused a.file.now a.regions c.requires.0 a.i a.before _ (right-fields (goal.at.returns-in_err-instant c).Else-not-are_right) (sym e)))

@@ -1,32 +1,26 @@
 -- `date` meets its contract: the century, and the three pairs behind it. Assumes nothing.
-use Rattle.std.proofs.Common.{◌≡◌, ℕ, ◌+◌, [], ◌∷◌, sym, refl, ap, ◌∙◌, arith}
-use Rattle.format.specs.Words.{accepted}
-use Rattle.text.specs.Pairs.{row_at, number_row, three_row}
-use Rattle.text.proofs.PartLaws.{century_row, pairs_row, date_no_century, date_no_rest, date_done, century_small, three_small}
+use Rattle.std.proofs.Common.{sym, refl, ap, ◌∙◌, arith}
+use Rattle.text.specs.Pairs.{number_row, three_row}
+use Rattle.text.proofs.PartLaws.{date_no_century, date_no_rest, date_done, century_small, three_small}
 use Rattle.text.proofs.cursor.Cursor.date.Goals as goal
 
-pub returns-in_default : goal.returns-in_default
-returns-in_default c = (date_no_century _ _ 6 (sym c.pair.ensures ∙ ap number_row c.in_default.is), tt)
+pub returns-in_err-century : goal.returns-in_err-century
+returns-in_err-century c = rw c.from_residual.ensures (date_no_century _ _ 6 (sym c.pair.ensures ∙ ap number_row c.in_err-century.was), tt)
 
-pub returns-in_default-three_pairs : goal.returns-in_default-three_pairs
-returns-in_default-three_pairs c = (date_no_rest _ _ 6 (sym c.three_pairs.ensures ∙ ap three_row c.in_default-three_pairs.is), tt)
+pub returns-in_err-year : goal.returns-in_err-year
+returns-in_err-year c = rw c.from_residual-in_err-year.ensures (date_no_rest _ _ 6 (sym c.three_pairs.ensures ∙ ap three_row c.in_err-year.was), tt)
 
 pub overflow_mul-century : goal.overflow_mul-century
-overflow_mul-century c =
-    let place : ℕ = c.args.self.at in
-    let century : row_at century_row c.args.s.now place ≡ accepted (c.in-Read.century ∷ []) = sym c.pair.ensures ∙ ap number_row c.in-Read.is in
-    omega (arith, century_small _ _ _ century)
+overflow_mul-century c = omega (arith, century_small _ _ _ (sym c.pair.ensures ∙ ap number_row c.in_ok-century.was))
 
 pub overflow_add-century : goal.overflow_add-century
 overflow_add-century c =
-    let place : ℕ = c.args.self.at in
-    let century : row_at century_row c.args.s.now place ≡ accepted (c.in-Read.century ∷ []) = sym c.pair.ensures ∙ ap number_row c.in-Read.is in
-    let rest : row_at (pairs_row 45) c.args.s.now (place + 2) ≡ accepted (c.in-Read-three_pairs.year ∷ c.in-Read-three_pairs.month ∷ c.in-Read-three_pairs.day ∷ []) = sym c.three_pairs.ensures ∙ ap three_row c.in-Read-three_pairs.is in
-    omega (arith, century_small _ _ _ century, (three_small _ _ _ _ _ _ rest).first)
+    omega (
+      arith,
+      century_small _ _ _ (sym c.pair.ensures ∙ ap number_row c.in_ok-century.was),
+      (three_small _ _ _ _ _ _ (sym c.three_pairs.ensures ∙ ap three_row c.in_ok-year.was)).first,
+    )
 
 pub returns : goal.returns
 returns c =
-    let place : ℕ = c.args.self.at in
-    let century : row_at century_row c.args.s.now place ≡ accepted (c.in-Read.century ∷ []) = sym c.pair.ensures ∙ ap number_row c.in-Read.is in
-    let rest : row_at (pairs_row 45) c.args.s.now (place + 2) ≡ accepted (c.in-Read-three_pairs.year ∷ c.in-Read-three_pairs.month ∷ c.in-Read-three_pairs.day ∷ []) = sym c.three_pairs.ensures ∙ ap three_row c.in-Read-three_pairs.is in
-    (rw c.new.ensures (date_done _ _ _ _ _ _ century rest), refl)
+    (rw c.new.ensures (date_done _ _ _ _ _ _ (sym c.pair.ensures ∙ ap number_row c.in_ok-century.was) (sym c.three_pairs.ensures ∙ ap three_row c.in_ok-year.was)), refl)

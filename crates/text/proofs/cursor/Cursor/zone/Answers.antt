@@ -8,9 +8,9 @@ use Rattle.text.proofs.cursor.Cursor.zone.Goals as goal
 pub returns-then-not-is_sign : goal.returns-then-not-is_sign
 returns-then-not-is_sign c = (zone_no_sign _ _ (sym c.is_sign.ensures ∙ not_true _ c.if-not-is_sign.true-raw), tt)
 
-pub returns-in_default : goal.returns-in_default
-returns-in_default c = (zone_no_rest _ _ 6 (sym c.two_pairs.ensures ∙ ap two_row c.in_default.is), tt)
+pub returns-in_err-hours : goal.returns-in_err-hours
+returns-in_err-hours c = rw c.from_residual.ensures (zone_no_rest _ _ 6 (sym c.two_pairs.ensures ∙ ap two_row c.in_err-hours.was), tt)
 
 pub returns : goal.returns
 returns c =
-    (zone_done _ _ _ _ _ c.is_minus.ensures (sym c.is_sign.ensures ∙ not_false _ c.if-not-is_sign.false-raw) (sym c.two_pairs.ensures ∙ ap two_row c.in-Read.is), refl)
+    (zone_done _ _ _ _ _ c.is_minus.ensures (sym c.is_sign.ensures ∙ not_false _ c.if-not-is_sign.false-raw) (sym c.two_pairs.ensures ∙ ap two_row c.in_ok-hours.was), refl)

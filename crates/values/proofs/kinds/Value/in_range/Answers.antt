@@ -1,14 +1,12 @@
 -- `Value::in_range` meets its contract: the date's test, and then the others'. Assumes nothing.
-use mathlib.Core.Path.{sym, ◌∙◌}
+use Rattle.std.proofs.Common.{rules}
 use Rattle.format.specs.Values.{in_range}
-use Rattle.format.proofs.Cases.{not_true, not_false}
 use Rattle.values.proofs.kinds.Value.in_range.Goals as goal
 
-pub returns-then-not-date_fits : goal.returns-then-not-date_fits
+pub returns-then-in_range : goal.returns-then-in_range
 unfolding in_range
-returns-then-not-date_fits c = rw (sym c.date_fits.ensures ∙ not_true _ c.if-not-date_fits.true-raw)
+returns-then-in_range c = search rules
 
-pub returns : goal.returns
+pub returns-else-in_range : goal.returns-else-in_range
 unfolding in_range
-returns c =
-    rw (sym c.date_fits.ensures ∙ not_false _ c.if-not-date_fits.false-raw) c.rest_in_range.ensures
+returns-else-in_range c = search rules
