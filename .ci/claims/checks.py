@@ -112,7 +112,7 @@ def calls_promise(repository):
         yield unless(crate not in documents.crates_listed(text, "Not for users"), "%s: `%s` is for users" % (CLAIMS, crate))
     crates = user_crates(repository, text)
     for crate in crates:
-        yield crate.faults
+        yield crate.faults + trait_faults(crate, documents.section(text, "Not for users"))
         for path, function in crate.functions.items():
             name, _, rest = path.partition("::")
             (exports if name in exporting else functions)[exporting.get(name, name) + "::" + rest] = function
@@ -148,9 +148,22 @@ def instances(functions, crates):
         for name, given in kinds.get(trait, []):
             called["%s::<%s>" % (call, name)] = function
             ghosts["%s::<%s>" % (call, name)] = given
-        if not trait:
+        if trait not in kinds:
             called[call] = function
     return called, ghosts
+
+
+def trait_faults(crate, hidden):
+    """What is wrong with a crate's own traits, which are between our crates: named under 'Not for users', and each function promises something and asks nothing."""
+    faults = []
+    for trait in [item for item in crate.items if item.kind == "trait" and item.public]:
+        faults += unless("`%s`" % trait.name in hidden, "%s: the trait %s is not named under 'Not for users' of %s" % (crate.name, trait.name, CLAIMS))
+        # without the bracket that closes the trait
+        inside = [rattle.Item(piece, trait.file) for piece in rattle.pieces(trait.text.rstrip()[:-1], "    ")[1:]]
+        for item in [item for item in inside if item.kind == "fn"]:
+            words = [word for word, _ in rattle.contract(item.text.rstrip()[:-1] + " {")[2]] if item.text.rstrip().endswith(";") else []
+            faults += unless(words == ["ensures"], "%s::%s::%s: in the trait it has not one `ensures`" % (crate.name, trait.name, item.name))
+    return faults
 
 
 def call_faults(repository, call, function, crate, promise, ghosts=None):

@@ -25,7 +25,7 @@ use Rattle.instants.specs.declared.Instant.{Instant}
 use Rattle.std.specs.Prelude.{Some, None, Ok, Err}
 use Rattle.schedule.specs.declared.Record.{Record as GivenRecord}
 use Rattle.schedule.specs.declared.Refusal.{Refusal}
-use Rattle.schedule.specs.Meaning.{refusal_number, record_from}
+use Rattle.schedule.specs.Meaning.{refusal_number, record_from, read_in}
 use Rattle.schedule.specs.Calls.{AsksFile}
 use Rattle.boundary.specs.Files.{held_numbers, held_or_zeros, asked_numbers}
 use Rattle.boundary.specs.Utc.{after}
@@ -260,21 +260,26 @@ pub own_question : OwnQuestion
 own_question = (own_none, own_record, own-refused)
   where
     own_none : (s : List ℕ) (i : Instant) (c k : ℕ) → AsksFile s i c (Ok (record { read = k; latest = None })) ↔ (ReadUpTo s i.micros c k × NoneOf s k i.micros c)
-    own_none s i c k = (λ p. answered_then s i.micros c k none_yet (sym p), λ p. sym (then_answered s i.micros c k none_yet p.0 p.1))
+    own_none s i c k = (
+      λ p. answered_then s i.micros c k none_yet (sym p.answer),
+      λ p. let e = then_answered s i.micros c k none_yet p.0 p.1 in record { answer = sym e; count = sym (ap records_read e) },
+    )
 
     own_record : (s : List ℕ) (i : Instant) (c k : ℕ) (r : GivenRecord)
         → AsksFile s i c (Ok (record { read = k; latest = Some r })) ↔ (ReadUpTo s i.micros c k × ((j : ℕ) × LastOf s k i.micros c j × shown_as r s j))
     own_record s i c k r = (
       λ p.
-          let x = answered_then s i.micros c k (holds (record_from r)) (sym p) in
+          let x = answered_then s i.micros c k (holds (record_from r)) (sym p.answer) in
           (x.0, (x.1.0, x.1.1, same_record s (unsigned_at s 0 4) x.1.0 r refl x.1.2)),
       λ p.
           let h = p.1.2 in
-          sym (then_answered s i.micros c k (holds (record_from r)) p.0 (p.1.0, p.1.1, rw (h.0, h.1, h.2, h.3, h.4, h.5))),
+          let e = then_answered s i.micros c k (holds (record_from r)) p.0 (p.1.0, p.1.1, rw (h.0, h.1, h.2, h.3, h.4, h.5)) in
+          record { answer = sym e; count = sym (ap records_read e) },
     )
 
-    own-refused : (s : List ℕ) (i : Instant) (c : ℕ) (f : Refusal) → AsksFile s i c (Err f) ↔ (question twelve s i.micros c ≡ refused (refusal_number f))
-    own-refused s i c f = (λ p. sym p, λ p. sym p)
+    own-refused : (s : List ℕ) (i : Instant) (c k : ℕ) (f : Refusal)
+        → (AsksFile s i c (Err f) × (k ≡ read_in (Err f))) ↔ ((k ≡ 0) × (question twelve s i.micros c ≡ refused (refusal_number f)))
+    own-refused s i c k f = (λ p. (p.1, sym p.0.answer), λ p. (record { answer = sym p.1; count = sym (ap records_read p.1) }, p.0))
 
 numbers_same : (h : Held) → held_or_zeros h ≡ five_numbers_held h
 unfolding held_numbers

@@ -29,7 +29,7 @@ use Rattle.card.specs.BenchOfQuestions.{Holding, LastOfTwo, NoneYet, OfChannels,
 use Rattle.instants.specs.declared.Instant.{Instant}
 use Rattle.schedule.specs.declared.Record.{Record as GivenRecord}
 use Rattle.schedule.specs.declared.Refusal.{Refusal}
-use Rattle.schedule.specs.Meaning.{refusal_number}
+use Rattle.schedule.specs.Meaning.{refusal_number, read_in}
 use Rattle.schedule.specs.Calls.{AsksFile}
 use Rattle.boundary.specs.Files.{HoldsForC}
 use Rattle.claims.specs.Schedule.{start_of, length_of, channel_of, correction_of, moment_of, Header, Good, Faulty, shown_as}
@@ -162,13 +162,14 @@ QuestionsMet = Holding × LastOfTwo × NoneYet × OfChannels × OfRecordsRead
 abbrev pub ReadUpTo : List ℕ → ℤ → ℕ → ℕ → Type 0
 ReadUpTo s t c k = Channel c × Header s × FirstNot (NotLater s t) (unsigned_at s 0 4) k × ((j : ℕ) → j < k → Good s j)
 
--- `holds` answers none yet, or a record, with the number read, exactly where it is so; and a refusal exactly where the question is refused so: it carries no number read, and C gets 0 with it (`QuestionToC`).
+-- `holds` answers none yet, or a record, with the number read, exactly where it is so; and a refusal exactly where the question is refused so: it "carries 0" (`read_in`).
 abbrev pub OwnQuestion : Type 0
 OwnQuestion =
     ((s : List ℕ) (i : Instant) (c k : ℕ) → AsksFile s i c (Ok (record { read = k; latest = None })) ↔ (ReadUpTo s i.micros c k × NoneOf s k i.micros c))
     × ((s : List ℕ) (i : Instant) (c k : ℕ) (r : GivenRecord)
     → AsksFile s i c (Ok (record { read = k; latest = Some r })) ↔ (ReadUpTo s i.micros c k × ((j : ℕ) × LastOf s k i.micros c j × shown_as r s j)))
-    × ((s : List ℕ) (i : Instant) (c : ℕ) (f : Refusal) → AsksFile s i c (Err f) ↔ (question twelve s i.micros c ≡ refused (refusal_number f)))
+    × ((s : List ℕ) (i : Instant) (c k : ℕ) (f : Refusal)
+    → (AsksFile s i c (Err f) × (k ≡ read_in (Err f))) ↔ ((k ≡ 0) × (question twelve s i.micros c ≡ refused (refusal_number f))))
 
 -- place, start of the stamp within the file, its length, instant, correction; none yet is five times 0
 abbrev pub five_numbers_held : Held → List ℤ

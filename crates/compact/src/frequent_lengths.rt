@@ -1,10 +1,10 @@
 // Images of the lengths that most values have, taken without a loop: the number is one or two loads, and whether it is the shortest is seen
 // from the number. The other lengths are rare, and left to `take`. All of it is compiled into each reader, where the kind is known: in a call the
 // choice would cost more than the look.
-ghost use Rattle.std.specs.Prelude.{◌≡◌, true, false, Some, ◌+◌, ◌-◌, ◌≤◌, leb, ltb, length, take, drop};
+ghost use Rattle.std.specs.Prelude.{◌≡◌, true, false, Some, ◌+◌, ◌-◌, ◌≤◌, leb, ltb, length};
 ghost use Rattle.std.specs.Int.Signed.{mag};
 ghost use Rattle.format.specs.Words.{needs, if_any};
-ghost use Rattle.format.specs.Octets.{half, signed_of};
+ghost use Rattle.format.specs.Octets.{half};
 ghost use Rattle.format.specs.Compact.{padded_to};
 ghost use Rattle.format.specs.CompactReading.{longest, carried_in};
 ghost use Rattle.values.specs.Meaning.{kind_from};
@@ -13,21 +13,6 @@ ghost use Rattle.compact.specs.Meaning.{Sees};
 use crate::reading::Taken;
 use crate::{lengths, limits, reading};
 use values::Kind;
-
-// N octets at a place as a number.
-fn signed<const N: usize>(s: &[u8], at: usize) -> i64
-    requires { (2 ≤ N) × (N ≤ 7) × (at + N ≤ length s.now) }
-    ensures { result ≡ signed_of (take N (drop at s.now)) }
-{
-    match N {
-        2 => octets::signed_2(s, at),
-        3 => octets::signed_3(s, at),
-        4 => octets::signed_4(s, at),
-        5 => octets::signed_5(s, at),
-        6 => octets::signed_6(s, at),
-        _ => octets::signed_7(s, at),
-    }
-}
 
 // Whether N octets are no more than their number takes: one fewer would not hold it. Padded ones are not looked at.
 fn is_shortest<const N: usize>(kind: Kind, front: bool, number: i64) -> bool
@@ -45,7 +30,7 @@ fn taken<const N: usize>(kind: Kind, front: bool, s: &[u8]) -> Taken
     ensures { Sees (kind_from kind) s.now (Some result) }
 {
     let offset = reading::offset_in(s, front);
-    let number = signed::<N>(s, limits::front_octets(front));
+    let number = octets::signed::<N>(s, limits::front_octets(front));
     Taken {
         offset,
         number,

@@ -47,7 +47,7 @@ fn put_offset(buf: &mut [u8], offset: Option<i32>)
     ensures { buf.new ≡ sets buf.old 0 (offset_octets offset) }
 {
     if let Some(minutes) = offset {
-        octets::put_signed_2(buf, 0, i64::from(minutes));
+        octets::put_signed::<2>(buf, 0, i64::from(minutes));
     }
 }
 
@@ -69,9 +69,9 @@ fn put_days(buf: &mut [u8], at: usize, n: usize, x: i64)
     ensures { buf.new ≡ sets buf.old at (signed_octets n x) }
 {
     match n {
-        3 => octets::put_signed_3(buf, at, x),
-        2 => octets::put_signed_2(buf, at, x),
-        _ => octets::put_signed(buf, at, n, x),
+        3 => octets::put_signed::<3>(buf, at, x),
+        2 => octets::put_signed::<2>(buf, at, x),
+        _ => octets::put_signed_in(buf, at, n, x),
     }
 }
 
@@ -80,8 +80,8 @@ fn put_millis(buf: &mut [u8], at: usize, n: usize, x: i64)
     ensures { buf.new ≡ sets buf.old at (signed_octets n x) }
 {
     match n {
-        4 => octets::put_signed_4(buf, at, x),
-        _ => octets::put_signed(buf, at, n, x),
+        4 => octets::put_signed::<4>(buf, at, x),
+        _ => octets::put_signed_in(buf, at, n, x),
     }
 }
 
@@ -91,7 +91,7 @@ fn put_t(buf: &mut [u8], at: usize, n: usize, x: i64)
 {
     match n {
         4..=6 => octets::put_signed_4_to_6(buf, at, n, x),
-        7 => octets::put_signed_7(buf, at, x),
-        _ => octets::put_signed(buf, at, n, x),
+        7 => octets::put_signed::<7>(buf, at, x),
+        _ => octets::put_signed_in(buf, at, n, x),
     }
 }

@@ -26,7 +26,7 @@ fn minutes_in(s: &[u8]) -> i32
     requires { 2 ≤ length s.now }
     ensures { result ≡ signed_of (take 2 s.now) }
 {
-    octets::signed_2(s, 0) as i32
+    octets::signed::<2>(s, 0) as i32
 }
 
 pub fn offset_in(s: &[u8], front: bool) -> Option<i32>

@@ -1,6 +1,6 @@
 -- What reading comes to, part by part, over the kind: a part that is refused refuses the whole, and with all parts found so is the whole.
 -- Assumes nothing.
-use mathlib.Core.Path.{◌≡◌, sym}
+use mathlib.Core.Path.{◌≡◌, refl, sym, ap}
 use mathlib.Core.Bool.{Bool, true, false}
 use mathlib.Core.List.{List}
 use Prim.Native.Nat.{ℕ, ◌+◌, ◌%◌, ◌≤◌}
@@ -18,7 +18,7 @@ use Rattle.format.specs.Values.{Kind, dated, zoned, Value, end_of_day, time_in_r
 use Rattle.format.specs.Octets.{unsigned_at}
 use Rattle.format.specs.Extended.{day_width, offset_from, extended_value, read_extended}
 use Rattle.format.specs.Reading.{answer, read_in, read_as}
-use Rattle.format.proofs.Cases.{both_false, passed, same, failed}
+use Rattle.format.proofs.Cases.{both_false, passed, same, never}
 use Rattle.format.proofs.Dates.{number_date}
 use Rattle.values.specs.declared.refusal.Refusal.{Refusal}
 use Rattle.values.specs.Meaning.{refusal_number}
@@ -38,13 +38,14 @@ pub no_offset_fits : (b : ℕ) → true ≡ eqb b 0 → offset_in_range (offset_
 unfolding offset_in_range
 no_offset_fits b e = rw (← no_offset b e)
 
--- the number of a refusal at one test
-number : {A : Type 0} (t : Bool) (n m : ℕ) (a : A) → refused n ≡ unless t m (accepted a) → n ≡ m
-number true n m a e = absurd (never_both e)
+-- one that was refused at its only test failed it, and has its number
+refused_at : {A : Type 0} (t : Bool) (n m : ℕ) (a : A) → refused n ≡ unless t m (accepted a) → (t ≡ false) × (n ≡ m)
+refused_at {A = A} true n m a e = never (ap is_accepted e)
   where
-    never_both : refused n ≡ accepted a → ⊥
-    never_both e = let z : ◌≡◌ {A = ℕ} 0 1 = cc in omega arith
-number false n m a e = cc
+    is_accepted : Outcome A → Bool
+    is_accepted (accepted x) = true
+    is_accepted (refused x) = false
+refused_at false n m a e = (refl, cc)
 
 module _ (k : Kind) (s : List ℕ) where
   abbrev bits : ℕ
@@ -94,7 +95,7 @@ module _ (k : Kind) (s : List ℕ) where
       where
         go : (a b c : Bool) (x : ℤ) (v : Value) → refused n ≡ unless a 6 (unless b 8 (accepted x)) → refused n ≡ answer k extended (unless a 6 (unless (both b c) 8 (accepted v)))
         go false b c x v e = let p : n ≡ 6 = cc in rw p
-        go true b c x v e = let p : n ≡ 8 = number b n 8 x e in let q : b ≡ false = failed b 8 n x (sym e) in rw (p, q)
+        go true b c x v e = let p = refused_at b n 8 x e in rw (p.0, p.1)
 
     module _ (o : ℤ) (h : accepted o ≡ header_in) where
       tests : (plain ≡ true) × (offset_in_range (offset_from bits) ≡ true) × (o ≡ offset_from bits)
@@ -105,17 +106,14 @@ module _ (k : Kind) (s : List ℕ) where
 
       pub time_refused : (n : ℕ) → refused n ≡ time_in → refused n ≡ read_as k extended s
       unfolding read_in
-      time_refused n e =
-          rw (comes, tests.0, tests.1, failed (time_in_range micros) 8 n micros (sym e), number (time_in_range micros) n 8 micros e, both_false (leb day last_number))
+      time_refused n e = let p = refused_at (time_in_range micros) n 8 micros e in rw (comes, tests.0, tests.1, p.0, p.1, both_false (leb day last_number))
 
       pub day_refused : leb day last_number ≡ false → refused 8 ≡ read_as k extended s
       unfolding read_in
       day_refused d = rw (comes, tests.0, tests.1, d)
 
       pub date_refused : (n : ℕ) → refused n ≡ date_in → refused n ≡ read_as k extended s
-      date_refused n e =
-          let d = pick (dated k) (day_of day) no_date in
-          rw (number (leb day last_number) n 8 d e) (day_refused (failed (leb day last_number) 8 n d (sym e)))
+      date_refused n e = let p = refused_at (leb day last_number) n 8 (pick (dated k) (day_of day) no_date) e in rw p.1 (day_refused p.0)
 
       module _ (m : ℕ) (t : accepted m ≡ time_in) where
         pub found : (d : Day) → accepted d ≡ date_in → accepted (record { kind = k; form = extended; value = record { date = d; micros = m; offset = o } }) ≡ read_as k extended s

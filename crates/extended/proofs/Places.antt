@@ -7,11 +7,17 @@ use native.Mathlib.Nat.{add_assoc}
 use native.Mathlib.Omega.{arith}
 use lib.Dec.{eqb}
 use lib.ListN.{get_or}
+use mir.Syntax.{w8}
+use mir.Val.{Fits}
 use borrow.Author.Tests.{eq-eqb, ne_eqb}
 use Rattle.format.specs.Octets.{Octets, unsigned_at}
 use Rattle.format.specs.Reading.{first_bits}
 use Rattle.format.proofs.Cases.{eq_or_ne}
 use Rattle.format.proofs.Unsigned.{unsigned_small}
+
+-- what the type of a slice says of its elements
+pub octets : (s : List ℕ) → ((i : ℕ) → Fits w8 (get_or s i 0)) → Octets s
+octets s f i = omega (arith, f i)
 
 module _ (s : List ℕ) (o : Octets s) where
   -- ---- the header

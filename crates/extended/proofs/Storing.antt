@@ -1,10 +1,10 @@
 -- What writing comes to, test by test, over the kind; and the words that make up an image. Assumes nothing.
-use mathlib.Core.Path.{◌≡◌, sym, ◌∙◌, ap}
+use mathlib.Core.Path.{◌≡◌, sym, ◌∙◌}
 use mathlib.Core.Bool.{true, false}
-use mathlib.Core.List.{List, ◌∷◌, ◌++◌}
-use Prim.Native.Nat.{ℕ, ◌+◌, ◌*◌, ◌/◌, ◌%◌, ◌<◌, ◌≤◌}
+use mathlib.Core.List.{List, ◌++◌}
+use Prim.Native.Nat.{ℕ, ◌+◌, ◌*◌, ◌/◌, ◌<◌, ◌≤◌}
 use native.Mathlib.Omega.{arith}
-use lib.ListN.{length, set}
+use lib.ListN.{length}
 use lib.Seq.{sets}
 use borrow.Author.Tests.{leb-true}
 use Rattle.format.specs.Words.{needs, accepted, refused, unless}
@@ -16,7 +16,7 @@ use Rattle.format.specs.Writing.{image_in, has_form, encode_in}
 use Rattle.format.proofs.Cases.{both_true, both_false, failed}
 use Rattle.format.proofs.Extended.{extended_length}
 use Rattle.octets.proofs.LowFirst.{four_quotients}
-use Rattle.octets.proofs.Turning.{unsigned_over}
+use Rattle.octets.proofs.Storing.{unsigned_over}
 use Rattle.values.specs.Promise.{Left}
 use Rattle.values.proofs.Writes.{refuses, short, stored}
 
@@ -51,17 +51,7 @@ module _ (k : Kind) (v : Value) (d : needs (dated k) (is_day v.date) ≡ true) (
   pub wrote : (n : ℕ) → n ≡ 7 + day_width k → (lent left : List ℕ) → n ≤ length lent → left ≡ sets lent 0 (extended_image k v) → Left (encode_in k extended v) lent 0 n left
   wrote n w lent left h s = rw image (stored (extended_image k v) lent left n (w ∙ sym (extended_length k v)) (rw (extended_length k v, ← w) h) s)
 
--- ---- the microseconds as an octet and four; the day number and the microseconds as eight
-
-five_split : (x : ℕ) → ((x / 4294967296 % 256) ∷ unsigned_octets 4 x) ≡ unsigned_octets 5 x
-unfolding unsigned_octets
-five_split x = rw (four_quotients x)
-
-pub five_octets : (m : ℕ) → ((m / 4294967296 % 256) ∷ unsigned_octets 4 (m % 4294967296)) ≡ unsigned_octets 5 m
-five_octets m =
-    let e : m ≡ m / 4294967296 * 4294967296 + m % 4294967296 = omega arith in
-    let r : unsigned_octets 4 (m % 4294967296) ≡ unsigned_octets 4 m = sym (ap (unsigned_octets 4) e ∙ unsigned_over 4 (m / 4294967296) (m % 4294967296)) in
-    rw r (five_split m)
+-- ---- the day number and the microseconds as eight
 
 eight_split : (x : ℕ) → unsigned_octets 3 (x / 1099511627776) ++ unsigned_octets 5 x ≡ unsigned_octets 8 x
 unfolding unsigned_octets
@@ -73,7 +63,3 @@ pub eight_octets : (d m : ℕ) → m < 1099511627776 → unsigned_octets 8 (d * 
 eight_octets d m h =
     let q : (d * 1099511627776 + m) / 1099511627776 ≡ d = omega arith in
     sym (eight_split (d * 1099511627776 + m)) ∙ rw (q, unsigned_over 5 d m)
-
--- stored one behind the other
-pub five_stored : (l m r : List ℕ) (x : ℕ) → m ≡ set l 2 (x / 4294967296 % 256) → r ≡ sets m 3 (unsigned_octets 4 (x % 4294967296)) → r ≡ sets l 2 (unsigned_octets 5 x)
-five_stored l m r x p q = q ∙ rw (p, ← five_octets x)

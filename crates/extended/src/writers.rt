@@ -28,14 +28,13 @@ fn day_of<T: Stamp>(date: Date) -> Option<u32>
     Some(0)
 }
 
-// Without a day number the microseconds are an octet and a word of 4.
+// Without a day number the microseconds are five octets by themselves.
 fn put_time(buf: &mut [u8], header: u16, micros: u64)
     requires { 7 ≤ length buf.old }
     ensures { buf.new ≡ sets buf.old 0 (unsigned_octets 2 header ++ unsigned_octets 5 micros) }
 {
-    octets::put2(buf, 0, header);
-    octets::put1(buf, 2, (micros / 0x1_0000_0000 % 256) as u8);
-    octets::put4(buf, 3, (micros % 0x1_0000_0000) as u32);
+    octets::put_unsigned::<2>(buf, 0, header as u64);
+    octets::put_unsigned::<5>(buf, 2, micros);
 }
 
 // Day number and microseconds are one word of 8.
@@ -43,8 +42,8 @@ fn put_datetime(buf: &mut [u8], header: u16, day: u32, micros: u64)
     requires { (10 ≤ length buf.old) × (day < 0x100_0000) × (micros < 0x100_0000_0000) }
     ensures { buf.new ≡ sets buf.old 0 (unsigned_octets 2 header ++ (unsigned_octets 3 day ++ unsigned_octets 5 micros)) }
 {
-    octets::put2(buf, 0, header);
-    octets::put8(buf, 2, (day as u64) * 0x100_0000_0000 + micros);
+    octets::put_unsigned::<2>(buf, 0, header as u64);
+    octets::put_unsigned::<8>(buf, 2, (day as u64) * 0x100_0000_0000 + micros);
 }
 
 #[tactic(auto, unfolding(format::specs::Extended::day_width, format::specs::Octets::unsigned_octets))]

@@ -1,20 +1,11 @@
 -- One octet stored behind those of the number without it; and the first four stored, then the last two over them. Assumes nothing.
 use Rattle.std.proofs.Common.{◌≡◌, ℕ, zero, suc, ◌+◌, ◌-◌, ◌^◌, ◌<◌, ◌≤◌, List, [], ◌∷◌, ◌++◌, length, set, ℤ, sym, refl, ◌∙◌, le_of_suc-le-suc, not-suc-le-zero, zero-add, arith, set-set, pow-add}
 use lib.Seq.{sets, set_comm}
-use Rattle.format.specs.Floor.{div_f, mod_f}
+use Rattle.format.specs.Floor.{div_f}
 use Rattle.format.specs.Octets.{signed_octets}
-use Rattle.format.proofs.Floor.{div_div, div_1}
-use Rattle.format.proofs.Signed.{octets_length, octets_snoc}
+use Rattle.format.proofs.Floor.{div_div}
+use Rattle.format.proofs.Signed.{octets_length}
 use Rattle.format.proofs.Storing.{sets_append}
-
-pub stored_behind : (l : List ℕ) (at n : ℕ) (x : ℤ) → set (sets l at (signed_octets n (div_f x 256))) (at + n) (mod_f x 256) ≡ sets l at (signed_octets (suc n) x)
-stored_behind l at n x =
-    rw octets_snoc (sym (rw (octets_length n (div_f x 256)) at (sets_append l at (signed_octets n (div_f x 256)) (mod_f x 256 ∷ []))))
-
--- the first of them
-pub stored_first : (l : List ℕ) (at : ℕ) (x : ℤ) → set l at (mod_f x 256) ≡ sets l at (signed_octets 1 x)
-unfolding signed_octets
-stored_first l at x = rw (div_1 x)
 
 -- ---- octets stored over others
 

@@ -2,10 +2,7 @@
 pub mod Integers
 pub mod Counting
 pub mod Taking
-pub mod Wrapping
-pub mod Signs
 pub mod LowFirst
-pub mod Turning
-pub mod Joining
 pub mod Behind
-pub mod Word
+pub mod Storing
+pub mod Joining

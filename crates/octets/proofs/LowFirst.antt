@@ -1,6 +1,6 @@
 -- Octets least significant first: how many they are, those of a word that is made of two, and single or shorter stores that are the store of
 -- one word. Assumes nothing.
-use Rattle.std.proofs.Common.{◌≡◌, ℕ, zero, suc, ◌+◌, ◌*◌, ◌/◌, ◌%◌, ◌^◌, ◌<◌, List, [], ◌∷◌, ◌++◌, length, take, set, sym, refl, ap, mul_assoc, pow-suc, add-one, arith}
+use Rattle.std.proofs.Common.{◌≡◌, ℕ, zero, suc, ◌+◌, ◌*◌, ◌/◌, ◌%◌, ◌^◌, ◌<◌, List, [], ◌∷◌, ◌++◌, length, take, sym, refl, ap, mul_assoc, pow-suc, arith}
 use lib.Seq.{sets}
 use Rattle.octets.specs.Words.{low_octets}
 
@@ -57,33 +57,6 @@ pub four_quotients : (w : ℕ) → w / 256 / 256 / 256 / 256 ≡ w / 4294967296
 four_quotients w = rw (two_quotients w, two_quotients (w / 65536)) (omega arith)
 
 module _ (l : List ℕ) (i w : ℕ) where
-  pub low_two : set (set l i (w % 256)) (i + 1) (w / 256 % 256) ≡ sets l i (low_octets 2 w)
-  unfolding low_octets
-  low_two = rw (add-one i)
-
-  pub low_four : sets (sets l i (low_octets 2 w)) (i + 2) (low_octets 2 (w / 65536)) ≡ sets l i (low_octets 4 w)
-  unfolding low_octets
-  low_four = let e : i + 2 ≡ suc (suc i) = omega arith in rw (e, two_quotients w)
-
   pub low_six : sets (sets l i (low_octets 4 w)) (i + 4) (low_octets 2 (w / 4294967296)) ≡ sets l i (low_octets 6 w)
   unfolding low_octets
   low_six = let e : i + 4 ≡ suc (suc (suc (suc i))) = omega arith in rw (e, ← four_quotients w)
-
-  -- octet by octet
-  pub low_eight : set (set (set (set (set (set (set (set l i (w % 256)) (i + 1) (w / 256 % 256)) (i + 2) (w / 65536 % 256)) (i + 3) (w / 16777216 % 256))
-      (i + 4) (w / 4294967296 % 256)) (i + 5) (w / 1099511627776 % 256)) (i + 6) (w / 281474976710656 % 256)) (i + 7) (w / 72057594037927936 % 256)
-      ≡ sets l i (low_octets 8 w)
-  unfolding low_octets
-  low_eight =
-      let e2 : i + 2 ≡ suc (suc i) = omega arith in
-      let e3 : i + 3 ≡ suc (suc (suc i)) = omega arith in
-      let e4 : i + 4 ≡ suc (suc (suc (suc i))) = omega arith in
-      let e5 : i + 5 ≡ suc (suc (suc (suc (suc i)))) = omega arith in
-      let e6 : i + 6 ≡ suc (suc (suc (suc (suc (suc i))))) = omega arith in
-      let e7 : i + 7 ≡ suc (suc (suc (suc (suc (suc (suc i)))))) = omega arith in
-      let q3 : w / 65536 / 256 ≡ w / 16777216 = omega arith in
-      let q4 : w / 16777216 / 256 ≡ w / 4294967296 = omega arith in
-      let q5 : w / 4294967296 / 256 ≡ w / 1099511627776 = omega arith in
-      let q6 : w / 1099511627776 / 256 ≡ w / 281474976710656 = omega arith in
-      let q7 : w / 281474976710656 / 256 ≡ w / 72057594037927936 = omega arith in
-      rw (add-one i, e2, e3, e4, e5, e6, e7, two_quotients w, q3, q4, q5, q6, q7)

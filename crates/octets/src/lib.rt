@@ -3,22 +3,18 @@
 // For the crates of this library: callers prove what is required.
 #![tactic(auto)]
 
-mod fixed;
 mod low;
 mod words;
 
-ghost use Rattle.std.specs.Prelude.{◌≡◌, ◌+◌, ◌^◌, ◌<◌, ◌≤◌, length, take, drop};
+ghost use Rattle.std.specs.Prelude.{◌≡◌, ◌+◌, ◌^◌, ◌<◌, ◌≤◌, length, take, drop, pos, nat_le, unsigned_abs};
 ghost use Rattle.std.specs.Int.Signed.{mag};
 ghost use Rattle.std.proofs.lemmas.List.Edits.{sets};
 ghost use Rattle.format.specs.Floor.{div_f, mod_f};
 ghost use Rattle.format.specs.Octets.{signed_octets, push, sign_from, signed_of, fewest_octets, tight};
+ghost use Rattle.octets.specs.Words.{so_far};
 
-pub use fixed::{
-    is_beyond, put_signed_2, put_signed_3, put_signed_4, put_signed_4_to_6, put_signed_7, signed_2,
-    signed_3, signed_4, signed_5, signed_6, signed_7,
-};
-pub use low::{put_low2, put_low4, put_low8, take_low2, take_low4, take_low5, take_low8};
-pub use words::{put1, put2, put4, put8, take4, take8};
+pub use low::{put_low, take_five, take_low};
+pub use words::{put_unsigned, take4, take8};
 
 // ---- the fewest octets
 
@@ -34,8 +30,27 @@ fn magnitude(x: i64) -> u64
 pub fn fewest_octets(x: i64) -> usize
     ensures { result ≡ fewest_octets x }
 {
-    let zeros = u64::leading_zeros(magnitude(x) | 1);
+    let zeros = (magnitude(x) | 1).leading_zeros();
     ((64 - zeros) / 8 + 1) as usize
+}
+
+// Whether a number lies outside of -half to half - 1: so that one octet fewer, which holds those, does not hold it.
+pub fn is_beyond(x: i64, half: i64) -> bool
+    requires { half ≡ pos (unsigned_abs half) }
+    ensures { result ≡ nat_le (unsigned_abs half) (mag x) }
+{
+    x < -half || half <= x
+}
+
+// Whether the octets from `at` on have no redundant sign octet (X.690 8.3.2).
+pub fn is_tight(s: &[u8], at: usize) -> bool
+    requires { at < length s.now }
+    ensures { result ≡ tight (drop at s.now) }
+{
+    let [first, second, ..] = &s[at..] else {
+        return true;
+    };
+    *first != if *second < 128 { 0 } else { 255 }
 }
 
 // ---- put into a buffer, from the last octet to the first
@@ -53,18 +68,42 @@ fn without_last(v: i64) -> i64
     (v & !0xff) / 256
 }
 
-// The last `n` octets of `x` in two's complement, at `at`: more of them than `x` needs repeat its sign.
-pub fn put_signed(buf: &mut [u8], at: usize, n: usize, x: i64)
+// The last `n` octets of `x` in two's complement, at `at`: more of them than `x` needs repeat its sign. Inlined, so that with a number of octets
+// that is known it has no loop, and two or four of them are one store.
+#[inline(always)]
+pub fn put_signed_in(buf: &mut [u8], at: usize, n: usize, x: i64)
     requires { at + n ≤ length buf.old }
     ensures { buf.new ≡ sets buf.old at (signed_octets n x) }
 {
     let mut v = x;
-    let mut i = n;
-    while 0 < i {
-        i -= 1;
+    for i in (0..n).rev() {
         buf[at + i] = last_octet(v);
         v = without_last(v);
     }
+}
+
+pub fn put_signed<const N: usize>(buf: &mut [u8], at: usize, x: i64)
+    requires { at + N ≤ length buf.old }
+    ensures { buf.new ≡ sets buf.old at (signed_octets N x) }
+{
+    put_signed_in(buf, at, N, x);
+}
+
+// Without its last `k` octets.
+fn without_octets(x: i64, k: usize) -> i64
+    requires { k ≤ 7 }
+    ensures { result ≡ div_f x (256 ^ k) }
+{
+    x >> (8 * k)
+}
+
+// Four to six octets: the first four, and the last two, which are some of those or stand behind them.
+pub fn put_signed_4_to_6(buf: &mut [u8], at: usize, n: usize, x: i64)
+    requires { (at + n ≤ length buf.old) × (4 ≤ n) × (n ≤ 6) }
+    ensures { buf.new ≡ sets buf.old at (signed_octets n x) }
+{
+    put_signed::<4>(buf, at, without_octets(x, n - 4));
+    put_signed::<2>(buf, at + (n - 2), x);
 }
 
 // ---- taken from a slice, from the first octet to the last
@@ -76,6 +115,22 @@ fn sign_from(b: u8) -> i64
     if b < 128 { 0 } else { -1 }
 }
 
+// The number of the first four of `n` octets, which are one load, or of the first two, or of none; and how many they are.
+fn first_of(s: &[u8], at: usize, n: usize) -> (i64, usize)
+    requires { (at + n ≤ length s.now) × (1 ≤ n) }
+    ensures passed { result.1 ≤ n }
+    ensures number { result.0 ≡ so_far s.now at result.1 }
+{
+    if 4 <= n {
+        let first = i32::from_be_bytes([s[at], s[at + 1], s[at + 2], s[at + 3]]);
+        (first as i64, 4)
+    } else if 2 <= n {
+        (i16::from_be_bytes([s[at], s[at + 1]]) as i64, 2)
+    } else {
+        (sign_from(s[at]), 0)
+    }
+}
+
 fn with_octet(v: i64, b: u8) -> i64
     requires { mag v < 2 ^ 55 }
     ensures { result ≡ push v b }
@@ -83,32 +138,33 @@ fn with_octet(v: i64, b: u8) -> i64
     v * 256 + (b as i64)
 }
 
-// The number of the `n` octets at `at`, in two's complement.
-pub fn take_signed(s: &[u8], at: usize, n: usize) -> i64
-    requires { (at + n ≤ length s.now) × (1 ≤ n) × (n ≤ 8) }
+// The number of `n` octets, of which so many are passed and have the number `first`: the others behind it, one by one. Inlined, as above.
+#[inline(always)]
+fn with_rest(s: &[u8], at: usize, n: usize, first: i64, passed: usize) -> i64
+    requires fits { (at + n ≤ length s.now) × (1 ≤ n) × (n ≤ 8) × (passed ≤ n) }
+    requires number { first ≡ so_far s.now at passed }
     ensures { result ≡ signed_of (take n (drop at s.now)) }
 {
-    let mut v = sign_from(s[at]);
-    let mut i = 0;
-    while i < n {
-        v = with_octet(v, s[at + i]);
-        i += 1;
+    let mut v = first;
+    for octet in &s[at + passed..at + n] {
+        v = with_octet(v, *octet);
     }
     v
 }
 
-// Whether the octets from `at` on have no redundant sign octet (X.690 8.3.2).
-pub fn is_tight(s: &[u8], at: usize) -> bool
-    requires { at < length s.now }
-    ensures { result ≡ tight (drop at s.now) }
+// The number of the `N` octets at `at`, in two's complement.
+pub fn signed<const N: usize>(s: &[u8], at: usize) -> i64
+    requires { (at + N ≤ length s.now) × (1 ≤ N) × (N ≤ 8) }
+    ensures { result ≡ signed_of (take N (drop at s.now)) }
 {
-    if at + 1 == s.len() {
-        return true;
-    }
-    let first = s[at];
-    if s[at + 1] < 128 {
-        first != 0
-    } else {
-        first != 255
-    }
+    let (first, passed) = first_of(s, at, N);
+    with_rest(s, at, N, first, passed)
+}
+
+// Of a number of octets that is told when it runs: octet by octet, as to choose among loads would cost the readers more than they save.
+pub fn take_signed(s: &[u8], at: usize, n: usize) -> i64
+    requires { (at + n ≤ length s.now) × (1 ≤ n) × (n ≤ 8) }
+    ensures { result ≡ signed_of (take n (drop at s.now)) }
+{
+    with_rest(s, at, n, sign_from(s[at]), 0)
 }

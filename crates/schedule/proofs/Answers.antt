@@ -3,6 +3,7 @@
 --     all_passed                      which passes each record that it reads
 --     found_there, found_not, found_faulty    the record at a place, if such a walk read it
 --     asked_ended, asked_faulty       the question is the walk up to its instant, and the last record of its channel among those passed
+--     bad_header, read_of             what the header's reader answered: a bad header, or the card of this file
 use mathlib.Core.Path.{◌≡◌, sym, ap, ◌∙◌}
 use mathlib.Core.Logic.{⊎_elim}
 use mathlib.Core.Bool.{true, false}
@@ -18,18 +19,24 @@ use Rattle.card.specs.Header.{twelve, header_good}
 use Rattle.card.specs.Records.{instant_at, record_at, records_from, in_file}
 use Rattle.card.specs.Step.{before_at, channel_good}
 use Rattle.card.specs.Reading.{Walked, taken, fault, walk_file, records, refused_at, numbered, full_reading, record_asked}
-use Rattle.card.specs.Question.{later, held_by, last_of, held_in_file, question}
+use Rattle.card.specs.Question.{later, held_by, last_of, held_in_file, question, records_read}
 use Rattle.card.proofs.Exactly.{described_good, accepted_exactly, file_fault}
 use Rattle.card.proofs.Walking.{records_length}
 use Rattle.card.proofs.Asking.{reads_so, faulty_so, answer_is, bad_header as asked_bad_header, bad_record, Came, came}
 use Rattle.card.proofs.Asking as ways
 use Rattle.card.proofs.Greatest.{greatest_asked, not_above, up_to_greatest}
 use Rattle.card.proofs.Limits.{record_at_place}
-use Rattle.std.specs.Prelude.{Option, Some, None, Err, ok_or}
+use Rattle.std.specs.Prelude.{Option, Some, None, Ok, Err, ok_or, Result}
 use Rattle.schedule.specs.declared.Refusal.{Refusal}
-use Rattle.schedule.specs.declared.header.Regions.{Regions}
+use Rattle.schedule.specs.declared.Record.{Record}
+use Rattle.schedule.specs.Meaning.{held_from}
+use Rattle.schedule.specs.declared.header.Card.{Card}
 use Rattle.schedule.specs.declared.walk.Ended.{Ended}
-use Rattle.schedule.specs.Steps.{HeaderRead, ended, faulty, ending, Stands, EndsBy, held_at, last_place}
+use Rattle.instants.specs.declared.Instant.{Instant}
+use Rattle.schedule.specs.declared.Held.{Held}
+use Rattle.schedule.specs.Meaning.{asked}
+use Rattle.schedule.specs.Calls.{AsksFile}
+use Rattle.schedule.specs.Steps.{HeaderRead, ended, faulty, ending, Stands, EndsBy, held_at, last_place, Latest}
 use Rattle.schedule.proofs.Endings.{ended_same}
 use Rattle.schedule.proofs.Finding.{asked_refused, held_last, held_before}
 
@@ -107,9 +114,9 @@ module _ (s : List ℕ) (t : ℤ) (c : ℕ) where
         none : e.read ≤ e.passed → last_of (held_by t c) (records_from twelve s 0 e.read) ≡ held_at s (last_place s c e.passed)
         none l = let z : e.read ≡ e.passed = omega (arith, h.least) in rw z before
 
-    pub asked_ended : channel_good c ≡ true → ending 0 (walk_file twelve s (later t)) ≡ ended e.read
+    asked-held : channel_good c ≡ true → ending 0 (walk_file twelve s (later t)) ≡ ended e.read
         → question twelve s t c ≡ accepted (record { read = e.read; held = held_in_file twelve s (held_at s (last_place s c e.passed)) })
-    asked_ended g w = go (came twelve s t c)
+    asked-held g w = go (came twelve s t c)
       where
         go : Came twelve s t c → question twelve s t c ≡ accepted (record { read = e.read; held = held_in_file twelve s (held_at s (last_place s c e.passed)) })
         go (ways.answer k a) =
@@ -126,6 +133,10 @@ module _ (s : List ℕ) (t : ℤ) (c : ℕ) where
         go (ways.bad k m a b d) =
             let x = ap (ending 0) (faulty_so twelve s t c k m b d) in
             absurd (let z : ◌≡◌ {A = ℕ} 0 1 = cc in omega arith)
+
+    pub asked_ended : (r : Option Record) → Latest s c e.passed r → channel_good c ≡ true → ending 0 (walk_file twelve s (later t)) ≡ ended e.read
+        → accepted (record { read = e.read; held = held_from r }) ≡ question twelve s t c
+    asked_ended r l g w = ap (λ x. accepted (record { read = e.read; held = x })) l ∙ sym (asked-held g w)
 
   pub asked_faulty : channel_good c ≡ true → (q m : ℕ) → ending 0 (walk_file twelve s (later t)) ≡ faulty q m → question twelve s t c ≡ refused m
   asked_faulty g q m e = go (came twelve s t c)
@@ -144,6 +155,16 @@ module _ (s : List ℕ) (t : ℤ) (c : ℕ) where
 
 -- ---- the header, where its reader's answer is asked for
 
-pub bad_header : (s : List ℕ) (r : Option Regions) (f e : Refusal) → Err f ≡ ok_or r e → HeaderRead s r → (header_good twelve s ≡ false) × (f ≡ e)
+pub bad_header : (s : List ℕ) (r : Option Card) (f e : Refusal) → Err f ≡ ok_or r e → HeaderRead s r → (header_good twelve s ≡ false) × (f ≡ e)
 bad_header s None f e x h = (h, cc)
 bad_header s (Some g) f e x h = absurd (let z : ◌≡◌ {A = ℕ} 0 1 = cc in omega arith)
+
+pub read_of : (s : List ℕ) (r : Option Card) (c : Card) (e : Refusal) → Ok c ≡ ok_or r e → HeaderRead s r → c.file.now ≡ s
+read_of s None c e x h = absurd (let z : ◌≡◌ {A = ℕ} 0 1 = cc in omega arith)
+read_of s (Some b) c e x h = let z : b ≡ c = cc in rw z at h
+
+-- ---- in the words of the promise
+
+pub asks : (s : List ℕ) (i : Instant) (c : ℕ) (r : Result Held Refusal) → asked r ≡ question twelve s i.micros c → AsksFile s i c r
+asks s i c (Ok h) e = record { answer = e; count = ap records_read e }
+asks s i c (Err f) e = record { answer = e; count = ap records_read e }

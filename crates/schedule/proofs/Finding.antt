@@ -1,5 +1,5 @@
 -- The records that are shown: by their place, and by their channel. Assumes nothing.
---     records_fit, shown_is       the records lie in the file, and what the fields of one show with its instant is the record at its place
+--     shown_is                    what the fields of a record show with its instant is the record at its place
 --     last_here, last_below       the last record of a channel, sought from behind: at a place, or below it
 --     last_place_le, held_last    it is one of those, and the one that holds
 --     held_before                 a later record behind them changes nothing
@@ -11,14 +11,12 @@ use native.Mathlib.Omega.{arith}
 use lib.Dec.{eqb}
 use lib.IntN.{ℤ}
 use lib.Signed.{le_z}
-use lib.ListN.{length}
 use borrow.Author.Tests.{eq-eqb, ne_eqb}
 use Rattle.format.specs.Words.{pick, refused}
-use Rattle.card.specs.Header.{twelve, count_of, header_good, stamps_start}
-use Rattle.card.specs.Records.{record_start, channel_at, instant_at, Record, record_at, records_from, in_file}
+use Rattle.card.specs.Header.{twelve, stamps_start}
+use Rattle.card.specs.Records.{channel_at, instant_at, Record, record_at, records_from, in_file}
 use Rattle.card.specs.Reading.{refused_at, full_reading, record_asked}
 use Rattle.card.specs.Question.{Held, none_yet, holds, held_by, last_from, last_of, held_in_file}
-use Rattle.card.proofs.Exactly.{header_told}
 use Rattle.schedule.specs.Meaning.{record_from}
 use Rattle.std.specs.Prelude.{Some, None}
 use Rattle.schedule.specs.declared.Record.{Record as Given}
@@ -30,15 +28,9 @@ asked_refused s p q m e = rw e
 
 -- ---- by its place
 
-module _ (s : List ℕ) (h : header_good twelve s ≡ true) where
-  -- behind n records
-  pub records_fit : (n : ℕ) → n ≤ count_of s → (n ≤ 1000) × (record_start twelve n ≤ length s)
-  unfolding stamps_start
-  records_fit n l = let d = header_told twelve s h in (omega (arith, d.few), omega (arith, d.ends_file))
-
-pub shown_is : (s : List ℕ) (p n : ℕ) (t : ℤ) → 0 < p → n ≡ count_of s → t ≡ instant_at twelve s (p - 1)
+pub shown_is : (s : List ℕ) (p n : ℕ) (t : ℤ) → 0 < p → n ≡ stamps_start twelve s → t ≡ instant_at twelve s (p - 1)
     → record_from (shown (record { fields = fields_in s (p - 1); instant = t }) p n) ≡ in_file twelve s (record_at twelve s (p - 1))
-unfolding stamps_start record_at
+unfolding record_at
 shown_is s zero n t l e q = absurd (omega arith)
 shown_is s (suc i) n t l e q = let z : suc i - 1 ≡ i = omega arith in rw (e, q, z)
 

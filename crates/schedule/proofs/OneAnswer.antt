@@ -12,7 +12,8 @@ use Rattle.values.proofs.OneAnswer as values
 use Rattle.instants.specs.declared.Instant.{Instant}
 use Rattle.card.specs.Records.{Record as FileRecord}
 use Rattle.card.specs.Reading.{FullReading as FileReading, records, refused_at}
-use Rattle.card.specs.Question.{Held as FileHeld, none_yet, holds, Asked as FileAsked}
+use Rattle.card.specs.Header.{twelve}
+use Rattle.card.specs.Question.{Held as FileHeld, none_yet, holds, Asked as FileAsked, question}
 use Rattle.card.specs.Over.{Source as FileSource, plan, manual, Part as FilePart}
 use Rattle.schedule.specs.declared.Refusal.{Refusal}
 use Rattle.schedule.specs.declared.Refusal.TheVariants as R
@@ -116,7 +117,7 @@ pub one_record_at : (s : List ℕ) (p : ℕ) → OneAnswer (FindsRecord s p)
 one_record_at s p = meaning_one found found_of found_back _
 
 pub one_holds : (s : List ℕ) (i : Instant) (c : ℕ) → OneAnswer (AsksFile s i c)
-one_holds s i c = meaning_one asked asked_of asked_back _
+one_holds s i c a b p q = meaning_one asked asked_of asked_back (question twelve s i.micros c) a b p.answer q.answer
 
 pub one_part_over : (p m : List ℕ) (i : Instant) (c : ℕ) → OneAnswer (ChoosesPart p m i c)
 one_part_over p m i c = meaning_one part_from part_of part_back _

@@ -1,6 +1,7 @@
 -- A step over the fields and the stamp that the code reads is the step of the definitions. Assumes nothing.
 --     record_fits      a record that the header says lies within the file
 --     fields_small     its fields are few enough for the code's sums
+--     stamps_small     and so is the place where the stamp octets start
 --     stamp_fits       a stamp in its place lies within the file
 --     step_bad         wrong fields: 14
 --     step_refused     a stamp that is refused
@@ -22,47 +23,56 @@ use Rattle.format.specs.Reading.{read}
 use Rattle.format.proofs.Cases.{both_true, same}
 use Rattle.format.proofs.Unsigned.{unsigned_small}
 use Rattle.moments.specs.Instant.{instant_of}
-use Rattle.card.specs.Header.{twelve, stamps_start}
+use Rattle.card.specs.Header.{twelve, count_of, stamp_octets, stamps_start}
 use Rattle.card.specs.Records.{record_start, start_at, length_at, channel_at, correction_at, stamp_at, instant_at, record_at}
 use Rattle.card.specs.Step.{at, at_front, channel_good, placed, place_good, fields_good, timed, step}
 use Rattle.card.proofs.Exactly.{header_told}
 use Rattle.card.proofs.Stepping.{instant_is}
-use Rattle.schedule.specs.declared.header.Regions.{Regions}
+use Rattle.schedule.specs.declared.header.Card.{Card}
 use Rattle.schedule.specs.declared.walk.Before.{Before}
-use Rattle.schedule.specs.Steps.{Says, fields_in, right, instant_in, before_from, taken}
+use Rattle.schedule.specs.Steps.{fields_in, right, instant_in, before_from, taken}
 
 pub fields_small : (s : List ℕ) (i : ℕ) → Octets s → (start_at twelve s i < 4294967296) × (length_at twelve s i < 65536)
 unfolding start_at length_at
 fields_small s i o = (unsigned_small s (record_start twelve i) 4 o, unsigned_small s (record_start twelve i + 4) 2 o)
 
-module _ (s : List ℕ) (g : Regions) (h : Says s g) (i : ℕ) where
-  pub record_fits : i < g.records → (i < 1000) × (record_start twelve i + 12 ≤ length s)
+pub stamps_small : (c : Card) → c.stamps < 4294967296
+unfolding stamps_start
+stamps_small c = let d = header_told twelve c.file.now c.good in omega (arith, d.few, c.follow)
+
+right_as : (s : List ℕ) (i : ℕ) (b : Before) (n k : ℕ) → n ≡ stamp_octets s → k ≡ count_of s
+    → right (fields_in s i) b.ended n (eqb (i + 1) k) ≡ fields_good twelve s i (before_from b)
+unfolding right placed fields_good place_good
+right_as s i b n k p q = let e : i + 1 ≡ suc i = omega arith in rw (p, q, e)
+
+module _ (c : Card) (i : ℕ) where
+  abbrev s : List ℕ
+  s = c.file.now
+
+  pub record_fits : i < c.records → record_start twelve i + 12 ≤ length s
   unfolding stamps_start
-  record_fits l =
-      let d = header_told twelve s h.good in
-      (omega (arith, d.few, h.records), omega (arith, d.ends_file, h.records))
+  record_fits l = let d = header_told twelve s c.good in omega (arith, d.ends_file, c.counted)
 
   module _ (b : Before) where
     abbrev rightly : Bool
-    rightly = right (fields_in s i) b.ended g.octets (eqb (i + 1) g.records)
+    rightly = right (fields_in s i) b.ended c.octets (eqb (i + 1) c.records)
 
     right_is : rightly ≡ fields_good twelve s i (before_from b)
-    unfolding right placed fields_good place_good
-    right_is = let e : i + 1 ≡ suc i = omega arith in rw (h.octets, h.records, e)
+    right_is = right_as s i b c.octets c.records c.many c.counted
 
     pub step_bad : rightly ≡ false → step twelve s i (before_from b) ≡ refused 14
     unfolding step
     step_bad e = rw (sym right_is ∙ e)
 
-    pub stamp_fits : rightly ≡ true → g.stamps + start_at twelve s i + length_at twelve s i ≤ length s
+    pub stamp_fits : rightly ≡ true → c.stamps + start_at twelve s i + length_at twelve s i ≤ length s
     unfolding right placed
     stamp_fits e =
-        let c = both_true (channel_good (channel_at twelve s i)) _ e in
-        let k = both_true (leb (nat_abs (correction_at twelve s i)) 1000000) _ c.1 in
+        let x = both_true (channel_good (channel_at twelve s i)) _ e in
+        let k = both_true (leb (nat_abs (correction_at twelve s i)) 1000000) _ x.1 in
         let p = both_true (eqb (start_at twelve s i) b.ended) _ k.1 in
-        let w = both_true (leb (start_at twelve s i + length_at twelve s i) g.octets) _ p.1 in
-        let d = header_told twelve s h.good in
-        omega (arith, leb-true (start_at twelve s i + length_at twelve s i) g.octets w.0, h.octets, h.stamps, d.ends_file)
+        let w = both_true (leb (start_at twelve s i + length_at twelve s i) c.octets) _ p.1 in
+        let d = header_told twelve s c.good in
+        omega (arith, leb-true (start_at twelve s i + length_at twelve s i) c.octets w.0, c.many, c.follow, d.ends_file)
 
     pub step_refused : (n : ℕ) → rightly ≡ true → instant_in (read DatetimeTz (stamp_at twelve s i)) ≡ refused n → step twelve s i (before_from b) ≡ refused n
     unfolding step

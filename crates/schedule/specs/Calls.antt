@@ -15,7 +15,7 @@ use Rattle.std.specs.Borrow.{Bor}
 use Rattle.instants.specs.declared.Instant.{Instant}
 use Rattle.card.specs.Header.{twelve}
 use Rattle.card.specs.Reading as card
-use Rattle.card.specs.Question.{question}
+use Rattle.card.specs.Question.{question, records_read}
 use Rattle.card.specs.Over.{of_two, handed_back}
 use Rattle.values.specs.declared.refusal.Refusal.{Refusal as StampRefusal}
 use Rattle.schedule.specs.declared.Refusal.{Refusal}
@@ -24,7 +24,7 @@ use Rattle.schedule.specs.declared.Fault.{Fault}
 use Rattle.schedule.specs.declared.Record.{Record}
 use Rattle.schedule.specs.declared.Held.{Held}
 use Rattle.schedule.specs.declared.parts.Part.{Part}
-use Rattle.schedule.specs.Meaning.{refusal_number, full_reading, found, asked, part_from}
+use Rattle.schedule.specs.Meaning.{refusal_number, full_reading, found, asked, read_in, part_from}
 
 -- the number of a refusal
 abbrev pub RefusalNumber : Refusal → ℕ → Type 0
@@ -46,9 +46,10 @@ ReadsFile s r = full_reading r ≡ card.full_reading twelve s
 abbrev pub FindsRecord : List ℕ → ℕ → Result Record Refusal → Type 0
 FindsRecord s p r = found r ≡ card.record_asked twelve s p
 
--- which correction holds; a refusal carries no number of records
-abbrev pub AsksFile : List ℕ → Instant → ℕ → Result Held Refusal → Type 0
-AsksFile s i c r = asked r ≡ question twelve s i.micros c
+-- which correction holds; "a refusal carries 0"
+pub record AsksFile (s : List ℕ) (i : Instant) (c : ℕ) (r : Result Held Refusal) : Type 0 where
+  pub answer : asked r ≡ question twelve s i.micros c
+  pub count : read_in r ≡ records_read (question twelve s i.micros c)
 
 -- manual over plan, in numbers
 abbrev pub ChoosesPart : List ℕ → List ℕ → Instant → ℕ → Part → Type 0

@@ -6,6 +6,7 @@
 --   found r            what `record_at` answers: a record, or the refusal's number and nothing else
 --   held_from x        what holds: a record, or none yet
 --   asked r            what `holds` answers: the number read and what holds, or the refusal's number
+--   read_in r          the number of records that `holds` says it read: 0 with a refusal
 --   source_from x      one of two files
 --   part_from q        what `part_over` answers: a part of one of them
 use Rattle.std.specs.Prelude.{ℕ, Option, Some, None, Result, Ok, Err}
@@ -56,6 +57,10 @@ held_from (Some r) = holds (record_from r)
 abbrev pub asked : Result Held Refusal → Outcome FileAsked
 asked (Ok h) = accepted (record { read = h.read; held = held_from h.latest })
 asked (Err f) = refused (refusal_number f)
+
+abbrev pub read_in : Result Held Refusal → ℕ
+read_in (Ok h) = h.read
+read_in (Err f) = 0
 
 abbrev pub source_from : Source → FileSource
 source_from S.Plan = plan

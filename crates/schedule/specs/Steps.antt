@@ -1,7 +1,6 @@
 -- What the code of this crate works with, between its modules: the header's numbers, a record's fields, a step, a walk over the whole file.
 --
---   Says s g           the header of s is right, and g is what it says
---   HeaderRead s r     what the header's reader answers: what it says, or that it is bad
+--   HeaderRead s r     what the header's reader answers: the file with what its header says, or that this is bad
 --   fields_in s i      the fields of record i
 --   right x e n last   the fields x are right behind a stamp that ended at e, with n stamp octets: else refusal 14
 --   instant_in o       the instant of what was read
@@ -9,7 +8,7 @@
 --   before_from b      what came before, in the paper's terms
 --   taken i t          record i, in the paper's terms
 --   stepped i r        what a step answers about record i
---   shown t p n        what is shown of a record of a file of n records, at the place p
+--   shown t p a        what is shown of a record at the place p, in a file whose stamp octets start at a
 --   GoodAlone s i      record i is good by itself
 --   ending i w         what a run from record i on comes to: the number read, or a fault, its place and number
 --   Passed s t i       record i is good, and not later than t
@@ -22,13 +21,13 @@
 --   held_at s p        what holds, by its place
 --   Latest s c n r     r is that record, or none
 --   HeldIn s t c r     r is what the question answers, whatever the count
-use Rattle.std.specs.Prelude.{ℕ, zero, suc, ◌+◌, ◌-◌, ◌*◌, ◌≤◌, ◌<◌, ◌≡◌, Bool, true, false, List, ℤ, negsuc, nat_abs, leb, eqb, length, Option, Some, None, Result, Ok, Err}
+use Rattle.std.specs.Prelude.{ℕ, zero, suc, ◌+◌, ◌-◌, ◌≤◌, ◌<◌, ◌≡◌, Bool, true, false, List, ℤ, negsuc, nat_abs, leb, eqb, length, Option, Some, None, Result, Ok, Err}
 use Rattle.std.specs.Int.Signed.{le_z}
 use Rattle.format.specs.Words.{pick, both, Outcome, accepted, refused}
 use Rattle.format.specs.Values.{Answer}
 use Rattle.moments.specs.Instant.{instant_of}
 use Rattle.values.specs.Meaning as values
-use Rattle.card.specs.Header.{twelve, header_good, count_of, stamp_octets, stamps_start}
+use Rattle.card.specs.Header.{twelve, header_good, count_of}
 use Rattle.card.specs.Records.{start_at, length_at, channel_at, correction_at, instant_at, Record as FileRecord, record_at}
 use Rattle.card.specs.Step.{at, Before as FileBefore, channel_good, greatest_correction, placed, step}
 use Rattle.card.specs.Reading.{Walked, fault, walk, walk_file}
@@ -38,7 +37,7 @@ use Rattle.schedule.specs.declared.Record.{Record}
 use Rattle.schedule.specs.declared.Refusal.{Refusal}
 use Rattle.schedule.specs.declared.Fault.{Fault}
 use Rattle.values.specs.declared.refusal.Refusal.{Refusal as StampRefusal}
-use Rattle.schedule.specs.declared.header.Regions.{Regions}
+use Rattle.schedule.specs.declared.header.Card.{Card}
 use Rattle.schedule.specs.declared.fields.Fields.{Fields}
 use Rattle.schedule.specs.declared.walk.Before.{Before}
 use Rattle.schedule.specs.declared.walk.Taken.{Taken}
@@ -47,14 +46,8 @@ use Rattle.schedule.specs.Meaning.{refusal_number, held_from}
 
 -- ---- the header
 
-pub record Says (s : List ℕ) (g : Regions) : Type 0 where
-  pub good : header_good twelve s ≡ true
-  pub records : g.records ≡ count_of s
-  pub stamps : g.stamps ≡ stamps_start twelve s
-  pub octets : g.octets ≡ stamp_octets s
-
-abbrev pub HeaderRead : List ℕ → Option Regions → Type 0
-HeaderRead s (Some g) = Says s g
+abbrev pub HeaderRead : List ℕ → Option Card → Type 0
+HeaderRead s (Some c) = c.file.now ≡ s
 HeaderRead s None = header_good twelve s ≡ false
 
 -- ---- a record
@@ -105,10 +98,10 @@ stepped i (Err f) = refused (refusal_number f)
 -- ---- the whole file
 
 abbrev pub shown : Taken → ℕ → ℕ → Record
-shown t p n =
+shown t p a =
     record {
       place = p;
-      start = 16 + 12 * n + t.fields.start;
+      start = a + t.fields.start;
       length = t.fields.length;
       channel = t.fields.channel;
       correction = t.fields.correction;

@@ -1,12 +1,10 @@
 // A record's fields.
-ghost use Rattle.std.specs.Prelude.{◌≡◌, ◌+◌, ◌≤◌, ◌<◌, nat_abs, leb, length};
-ghost use Rattle.card.specs.Header.{twelve};
-ghost use Rattle.card.specs.Records.{record_start};
+ghost use Rattle.std.specs.Prelude.{◌≡◌, ◌+◌, ◌<◌, nat_abs, leb};
 ghost use Rattle.card.specs.Step.{channel_good, greatest_correction, placed};
 ghost use Rattle.schedule.specs.Steps.{fields_in, right};
 
 use crate::Record;
-use crate::header::{RECORD, RECORDS};
+use crate::header::{Card, RECORD, RECORDS};
 
 #[derive(Clone, Copy)]
 pub(crate) struct Fields {
@@ -17,22 +15,24 @@ pub(crate) struct Fields {
     pub correction: i64,
 }
 
-// Records count from 0 here. The first three fields are one word.
-pub(crate) fn fields_at(file: &[u8], i: usize) -> Fields
-    requires { (i < 1000) × (record_start twelve i + 12 ≤ length file.now) }
-    ensures { result ≡ fields_in file.now i }
-{
-    let at = RECORDS + RECORD * i;
-    let word = octets::take8(file, at);
-    let start = (word / 4_294_967_296) as usize;
-    let length = (word / 65_536 % 65_536) as usize;
-    let channel = (word % 65_536) as u32;
-    let correction = octets::signed_4(file, at + 8);
-    Fields {
-        start,
-        length,
-        channel,
-        correction,
+impl<'a> Card<'a> {
+    // Of record i, from 0 on. The first three are one word.
+    pub(crate) fn fields(self, i: u32) -> Fields
+        requires { i < self.records }
+        ensures { result ≡ fields_in self.entry.file.now i }
+    {
+        let at = RECORDS + RECORD * i as usize;
+        let word = octets::take8(self.file, at);
+        let start = (word / 4_294_967_296) as usize;
+        let length = (word / 65_536 % 65_536) as usize;
+        let channel = (word % 65_536) as u32;
+        let correction = octets::signed::<4>(self.file, at + 8);
+        Fields {
+            start,
+            length,
+            channel,
+            correction,
+        }
     }
 }
 

@@ -10,6 +10,7 @@ mod parts;
 mod stamps;
 mod walk;
 
+use header::Card;
 use instants::Instant;
 pub use parts::{Part, Source, over, part_over};
 
@@ -100,13 +101,13 @@ impl From<Fault> for Refusal {
 pub fn read(file: &[u8]) -> Result<u32, Fault>
     ensures { ReadsFile file.now result }
 {
-    let Some(regions) = header::read(file) else {
+    let Some(card) = Card::read(file) else {
         return Err(Fault {
             refusal: Refusal::Header,
             place: 0,
         });
     };
-    let ended = walk::up_to(file, regions, i64::MAX)?;
+    let ended = card.up_to(i64::MAX)?;
     Ok(ended.read)
 }
 
@@ -114,15 +115,15 @@ pub fn read(file: &[u8]) -> Result<u32, Fault>
 pub fn record_at(file: &[u8], place: u32) -> Result<Record, Refusal>
     ensures { FindsRecord file.now place result }
 {
-    let regions = header::read(file).ok_or(Refusal::Header)?;
-    let ended = walk::up_to(file, regions, i64::MAX)?;
+    let card = Card::read(file).ok_or(Refusal::Header)?;
+    let ended = card.up_to(i64::MAX)?;
     if place < 1 {
         return Err(Refusal::Base(values::Refusal::Value));
     }
     if ended.passed < place {
         return Err(Refusal::Base(values::Refusal::Value));
     }
-    Ok(ended.shown(file, regions, place))
+    Ok(ended.shown(card, place))
 }
 
 // Which correction holds on a channel at an instant, any instant. Records behind the first that is later are not looked at.
@@ -132,9 +133,9 @@ pub fn holds(file: &[u8], instant: Instant, channel: u32) -> Result<Held, Refusa
     if !fields::is_channel(channel) {
         return Err(Refusal::Base(values::Refusal::Value));
     }
-    let regions = header::read(file).ok_or(Refusal::Header)?;
-    let ended = walk::up_to(file, regions, instant.micros)?;
-    let latest = ended.latest(file, regions, channel);
+    let card = Card::read(file).ok_or(Refusal::Header)?;
+    let ended = card.up_to(instant.micros)?;
+    let latest = ended.latest(card, channel);
     Ok(Held {
         read: ended.read,
         latest,

@@ -7,7 +7,8 @@ ghost use Rattle.schedule.specs.Meaning.{record_from, held_from, source_from, pa
 ghost use Rattle.schedule.specs.Steps.{HeldIn};
 ghost use Rattle.schedule.specs.Calls.{PartOf, ChoosesPart, HandsBack};
 
-use crate::{Record, Refusal, fields, header, walk};
+use crate::header::Card;
+use crate::{Record, Refusal, fields};
 use instants::Instant;
 
 // Which of the two files.
@@ -75,9 +76,9 @@ fn held_in(file: &[u8], until: i64, channel: u32) -> Result<Option<Record>, Refu
     requires { channel_good channel ≡ true }
     ensures { HeldIn file.now until channel result }
 {
-    let regions = header::read(file).ok_or(Refusal::Header)?;
-    let ended = walk::up_to(file, regions, until)?;
-    Ok(ended.latest(file, regions, channel))
+    let card = Card::read(file).ok_or(Refusal::Header)?;
+    let ended = card.up_to(until)?;
+    Ok(ended.latest(card, channel))
 }
 
 // The part in numbers. A manual schedule beside a plan that is refused is not looked at.

@@ -1,10 +1,11 @@
 // The kind that an either-or reader chooses: the first rule that fits. (01, How a reader chooses; 02, request 1.)
 // A zoned text without a fraction is as long as a plain one with five digits: the octet behind the seconds tells them apart.
+#![tactic(auto, unfolding(format::specs::EitherOr::kind_in, format::specs::EitherOr::kind_by01, format::specs::Reading::first_bits))]
+
 ghost use Rattle.stamp.specs.Calls.{ChoosesDate, ChoosesTime, ChoosesDatetime};
 
 use values::Kind;
 
-#[tactic(auto, unfolding(format::specs::EitherOr::kind_in, format::specs::EitherOr::kind_by01))]
 pub fn date_kind(s: &[u8]) -> Kind
     ensures { ChoosesDate s.now result }
 {
@@ -17,7 +18,6 @@ pub fn date_kind(s: &[u8]) -> Kind
 }
 
 // The header's bits count at 7 octets only.
-#[tactic(auto, unfolding(format::specs::EitherOr::kind_in, format::specs::EitherOr::kind_by01, format::specs::Reading::first_bits))]
 pub fn time_kind(s: &[u8]) -> Kind
     ensures { ChoosesTime s.now result }
 {
@@ -32,7 +32,6 @@ pub fn time_kind(s: &[u8]) -> Kind
 }
 
 // The header's bits count at every length above 9.
-#[tactic(auto, unfolding(format::specs::EitherOr::kind_in, format::specs::EitherOr::kind_by01, format::specs::Reading::first_bits))]
 pub fn datetime_kind(s: &[u8]) -> Kind
     ensures { ChoosesDatetime s.now result }
 {

@@ -61,18 +61,21 @@ fn read_kind(kind: Kind, s: &[u8]) -> Result<Decoded, Refusal>
     }
 }
 
+#[tactic(auto, unfolding(format::specs::EitherOr::read_either))]
 pub fn read_date_or_date_tz(s: &[u8]) -> Result<Decoded, Refusal>
     ensures { ReadsDateOrDateTz s.now result }
 {
     read_kind(either::date_kind(s), s)
 }
 
+#[tactic(auto, unfolding(format::specs::EitherOr::read_either))]
 pub fn read_time_or_time_tz(s: &[u8]) -> Result<Decoded, Refusal>
     ensures { ReadsTimeOrTimeTz s.now result }
 {
     read_kind(either::time_kind(s), s)
 }
 
+#[tactic(auto, unfolding(format::specs::EitherOr::read_either))]
 pub fn read_datetime_or_datetime_tz(s: &[u8]) -> Result<Decoded, Refusal>
     ensures { ReadsDatetimeOrDatetimeTz s.now result }
 {

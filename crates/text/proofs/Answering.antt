@@ -1,9 +1,9 @@
 -- What is answered of a text whose octets are all right, by what its numbers are: -00:00, a part out of its range, or the stamp. Over the kind;
 -- b is what a test answered. Assumes nothing.
-use Rattle.std.proofs.Common.{◌≡◌, ℕ, ◌≤◌, Bool, true, false, not, eqb, leb, List, length, sym, ◌∙◌, leb-true}
-use Rattle.format.specs.Words.{both, needs, accepted, refused}
+use Rattle.std.proofs.Common.{◌≡◌, ℕ, Bool, true, false, not, eqb, leb, List, length, sym, ◌∙◌, refl}
+use Rattle.format.specs.Words.{both, needs, accepted, refused, unless}
 use Rattle.format.specs.Calendar.{Day, is_day}
-use Rattle.format.specs.Values.{Kind, dated, text}
+use Rattle.format.specs.Values.{Kind, dated, time_in_range, text}
 use Rattle.format.specs.TextReading.{digits_found}
 use Rattle.format.specs.Reading.{read_as}
 use Rattle.format.proofs.Cases.{both_true, both_false}
@@ -60,7 +60,17 @@ module _ {k : Kind} {d : ℕ} {s : List ℕ} {x : Day} {t : Clock} {z : Zone} wh
     stamped f g h {v = v} a b c =
         accepted_as k d s w.said.opened.found _ (w.said.read ∙ rw (w.plain, f, g, h, a, b, c))
 
-pub zone_small : (h m : ℕ) → both (leb h 23) (leb m 59) ≡ true → (h ≤ 23) × (m ≤ 59)
-zone_small h m e =
-    let b = both_true (leb h 23) (leb m 59) e in
-    (leb-true h 23 b.0, leb-true m 59 b.1)
+    -- where it was not yet asked whether there is such a day
+    pub all_but_the_day : clock_in_day t.minute t.second t.time.micros ≡ true → zone_fits z ≡ true
+        → {y : Date} {v : Time} {o : Offset} → day_from y ≡ x → v ≡ t.time → o.minutes ≡ offset_of z
+        → unless (needs (dated k) (is_day (day_from y))) 8 (accepted (record { kind = k; form = text d; value = value_from (record { date = y; time = v; offset = o }) }))
+        ≡ read_as k (text (digits_found k (length s))) s
+    all_but_the_day g h {y} {v} {o} a b c = go (needs (dated k) (is_day (day_from y))) refl
+      where
+        go : (n : Bool) → n ≡ needs (dated k) (is_day (day_from y))
+            → unless n 8 (accepted (record { kind = k; form = text d; value = value_from (record { date = y; time = v; offset = o }) })) ≡ read_as k (text (digits_found k (length s))) s
+        go true e = stamped (rw a at (sym e)) g h a b c
+        go false e = no_day (rw a at e) refl
+
+pub in_day : (m n u : ℕ) → clock_in_day m n u ≡ true → time_in_range u ≡ true
+in_day m n u e = (both_true (leb n 59) _ (both_true (leb m 59) _ e).1).1

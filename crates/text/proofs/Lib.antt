@@ -12,7 +12,6 @@ pub mod Answering
 pub mod Lanes
 pub mod Shifting
 pub mod PuttingWords
-pub mod PuttingSigns
 pub mod Putting
 pub mod TextWriters
 pub mod LocalReadings

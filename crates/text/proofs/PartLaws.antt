@@ -1,6 +1,8 @@
 -- The parts of a text: the fraction of a second, the date and the offset, each from what was read of them. Assumes nothing.
-use Rattle.std.proofs.Common.{◌≡◌, ℕ, suc, ◌+◌, ◌-◌, ◌*◌, ◌^◌, ◌<◌, ◌≤◌, Bool, true, false, eqb, List, [], ◌∷◌, get_or, refl, lt_of_lt_of_le, zero-mul, add-one, arith, eq-eqb, ne_eqb, eqb-true}
+use Rattle.std.proofs.Common.{◌≡◌, ℕ, suc, ◌+◌, ◌-◌, ◌*◌, ◌^◌, ◌<◌, ◌≤◌, Bool, true, false, eqb, leb, List, [], ◌∷◌, get_or, length, take, drop, refl, ◌∙◌, ◌⊎◌, ⊎_elim, lt_of_lt_of_le, zero-mul, add-one, arith, eq-eqb, ne_eqb, eqb-true}
 use native.Mathlib.Nat.{pow-le-pow_right}
+use borrow.Author.Tests.{lt-leb}
+use Rattle.std.proofs.lemmas.List.{length-take-le, length-drop, get_or-take, get_or-drop}
 use Rattle.format.specs.Words.{pick, both, either, accepted, refused}
 use Rattle.format.specs.Digits.{is_digit, are_digits, number_at}
 use Rattle.format.specs.Fields.{Field, digits, after, width, fits_at, says_at, fit, says}
@@ -58,6 +60,22 @@ part_small =
 
 pub counted_small : (d : ℕ) (s : List ℕ) (p : ℕ) → d ≤ 6 → are_digits s p d ≡ true → (v u : ℕ) → v ≡ number_at s p d → u ≡ fraction_unit d → v * u < 1000000
 counted_small d s p h e v u i j = rw (i, j) (part_small d h (number_at s p d) (number_small s p d e))
+
+-- the d octets from the place p on, as a slice: how many there are, and each one's place
+module _ (s : List ℕ) (p d : ℕ) (h : p + d ≤ length s) where
+  abbrev octets : List ℕ
+  octets = take (p + d - p) (drop p s)
+
+  pub slice_long : length octets ≡ d
+  slice_long = length-take-le (p + d - p) (drop p s) (omega (arith, length-drop p s, h)) ∙ omega arith
+
+  pub slice_octet : (i : ℕ) → i < length octets → (i < d) × (get_or octets i 0 ≡ get_or s (p + i) 0)
+  slice_octet i l =
+      let f : i < d = omega (arith, slice_long, l) in
+      (f, get_or-take (p + d - p) (drop p s) i 0 (omega (arith, f)) ∙ get_or-drop p s i 0)
+
+pub no_digit : (x : ℕ) → (x < 48) ⊎ (57 < x) → is_digit x ≡ false
+no_digit x = ⊎_elim (λ a. rw (lt-leb 48 x a)) (λ b. rw (lt-leb x 57 b, both_false (leb 48 x)))
 
 -- ---- a row that was read, or was not
 

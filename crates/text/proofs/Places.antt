@@ -73,8 +73,8 @@ pub record Said (k : Kind) (d : ℕ) (s : List ℕ) (x : Day) (t : Clock) (z : Z
 abbrev pub clock_with : ℕ → ℕ → ℕ → ℕ → Clock
 clock_with h m n u = record { minute = m; second = n; time = record { micros = micros_of h m n u } }
 
-pub open_text : {k j : Kind} {d : ℕ} {s : List ℕ} → j ≡ k → d ≡ digits_found j (length s) → d ≤ 6 → Opened k d s
-open_text e found few = record { found = rw e at found; few = few }
+pub open_text : {k j : Kind} {d : ℕ} {s : List ℕ} → j ≡ k → (d ≡ digits_found j (length s)) × (d ≤ 6) → Opened k d s
+open_text e h = record { found = rw e at h.0; few = h.1 }
 
 module _ {k : Kind} {d : ℕ} {s : List ℕ} (o : Opened k d s) where
   long : length s ≡ widths (date_row (dated k)) + (widths (clock_row (timed k) (dated k) d) + widths (offset_row (zoned k)))

@@ -24,13 +24,12 @@ impl Cursor {
         requires { self.at + 10 ≤ length s.now }
         ensures { (dated_row result ≡ row_at (date_row true) s.now self.at) × dated_to (self.at + 10) result }
     {
-        let at = self.at;
-        let century = pairs::pair(s, at)?;
-        let (year, month, day) = pairs::three_pairs(s, at + 2, 45)?;
+        let century = pairs::pair(s, self.at)?;
+        let (year, month, day) = pairs::three_pairs(s, self.at + 2, b'-')?;
         Some((
             Date::new(century * 100 + year, month, day),
             Cursor {
-                at: at + lengths::DATE,
+                at: self.at + lengths::DATE,
             },
         ))
     }
@@ -40,11 +39,10 @@ impl Cursor {
         requires { self.at < length s.now }
         ensures { joined_to s.now self.at result }
     {
-        let at = self.at;
-        if s[at] != parts::T {
+        if s[self.at] != parts::T {
             return None;
         }
-        Some(Cursor { at: at + 1 })
+        Some(Cursor { at: self.at + 1 })
     }
 
     // Hour, minute and second.
@@ -52,14 +50,13 @@ impl Cursor {
         requires { self.at + 8 ≤ length s.now }
         ensures { (timed_row result ≡ row_at (digits 2 ∷ after 58 2 ∷ after 58 2 ∷ []) s.now self.at) × timed_to (self.at + 8) result }
     {
-        let at = self.at;
-        let (hour, minute, second) = pairs::three_pairs(s, at, 58)?;
+        let (hour, minute, second) = pairs::three_pairs(s, self.at, b':')?;
         Some((
             hour,
             minute,
             second,
             Cursor {
-                at: at + lengths::TIME,
+                at: self.at + lengths::TIME,
             },
         ))
     }
@@ -69,17 +66,16 @@ impl Cursor {
         requires { (self.at + width (fraction_field digits) ≤ length s.now) × (digits ≤ 6) }
         ensures { (parted_row result ≡ part_at digits s.now self.at) × parted_to (self.at + width (fraction_field digits)) result }
     {
-        let at = self.at;
         // the usual ones, as a word
         if digits == 3 {
-            let micros = pairs::thousandths(s, at)?;
-            return Some((micros, Cursor { at: at + 4 }));
+            let micros = pairs::thousandths(s, self.at)?;
+            return Some((micros, Cursor { at: self.at + 4 }));
         }
-        let micros = fraction::digit_by_digit(s, at, digits)?;
+        let micros = fraction::digit_by_digit(s, self.at, digits)?;
         Some((
             micros,
             Cursor {
-                at: at + writing::fraction_length(digits),
+                at: self.at + writing::fraction_length(digits),
             },
         ))
     }
@@ -88,12 +84,11 @@ impl Cursor {
         requires { self.at + 6 ≤ length s.now }
         ensures { (zoned_row result ≡ row_at (offset_row true) s.now self.at) × zoned_to (self.at + 6) result }
     {
-        let at = self.at;
-        let sign = s[at];
+        let sign = s[self.at];
         if !parts::is_sign(sign) {
             return None;
         }
-        let (hours, minutes) = pairs::two_pairs(s, at + 1)?;
+        let (hours, minutes) = pairs::two_pairs(s, self.at + 1)?;
         let zone = Zone {
             minus: parts::is_minus(sign),
             hours,
@@ -102,7 +97,7 @@ impl Cursor {
         Some((
             zone,
             Cursor {
-                at: at + lengths::OFFSET,
+                at: self.at + lengths::OFFSET,
             },
         ))
     }

@@ -1,19 +1,9 @@
 // The fraction of a second, in microseconds: a point and up to six digits, or nothing at all.
 ghost use Rattle.std.specs.Prelude.{◌≡◌, ◌+◌, ◌≤◌, length};
-ghost use Rattle.format.specs.Digits.{is_digit};
 ghost use Rattle.format.specs.Fields.{width};
 ghost use Rattle.format.specs.Text.{fraction_unit};
 ghost use Rattle.text.specs.Putting.{fraction_field};
 ghost use Rattle.text.specs.Pairs.{part_at, number_row};
-
-fn is_digit(octet: u8) -> bool
-    ensures { result ≡ is_digit octet }
-{
-    if octet < 48 {
-        return false;
-    }
-    octet <= 57
-}
 
 // What the last of so many fraction digits counts, in microseconds: a `match`, where a power would be a loop.
 fn fraction_unit(digits: u32) -> u32
@@ -39,20 +29,16 @@ pub fn digit_by_digit(s: &[u8], at: usize, digits: u32) -> Option<u32>
     if digits == 0 {
         return Some(0);
     }
-    if s[at] != 46 {
+    if s[at] != b'.' {
         return None;
     }
     let first = at + 1;
-    let n = digits as usize;
     let mut number: u32 = 0;
-    let mut i: usize = 0;
-    while i < n {
-        let octet = s[first + i];
-        if !is_digit(octet) {
+    for octet in &s[first..first + digits as usize] {
+        if !octet.is_ascii_digit() {
             return None;
         }
-        number = number * 10 + octet as u32 - 48;
-        i += 1;
+        number = number * 10 + (*octet - b'0') as u32;
     }
     Some(number * fraction_unit(digits))
 }

@@ -3,6 +3,7 @@ ghost use Rattle.std.specs.Prelude.{◌≡◌, ◌≤◌};
 ghost use Rattle.format.specs.Text.{text_length};
 ghost use Rattle.format.specs.TextReading.{digits_found};
 ghost use Rattle.values.specs.Meaning.{kind_from};
+ghost use Rattle.text.specs.Parts.{counted};
 
 use crate::writing;
 use values::{Kind, Settings};
@@ -52,23 +53,22 @@ pub fn text_length(kind: Kind, digits: u32) -> usize
     whole
 }
 
-// How many fraction digits a text of this kind and length has; one more than there can be where there is no such text.
+// How many fraction digits a text of this kind and length has; None where there is no such text.
 // A point stands before the digits: so no text is one octet longer than the shortest.
-pub fn digits_in(kind: Kind, octets: usize) -> u32
-    ensures { result ≡ digits_found (kind_from kind) octets }
+pub fn digits_in(kind: Kind, octets: usize) -> Option<u32>
+    ensures { counted (digits_found (kind_from kind) octets) result }
 {
     let whole = whole_length(kind);
     if octets == whole {
-        return 0;
+        return Some(0);
     }
     if !kind.timed() {
-        return Settings::MAX_DIGITS + 1;
+        return None;
     }
-    if octets < whole + 2 {
-        return Settings::MAX_DIGITS + 1;
+    let shortest = whole + 2;
+    let longest = whole + 1 + Settings::MAX_DIGITS as usize;
+    if octets < shortest || longest < octets {
+        return None;
     }
-    if whole + 1 + (Settings::MAX_DIGITS as usize) < octets {
-        return Settings::MAX_DIGITS + 1;
-    }
-    (octets - whole - 1) as u32
+    Some((octets - whole - 1) as u32)
 }

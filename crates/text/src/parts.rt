@@ -35,11 +35,7 @@ pub struct Zone {
 pub fn is_sign(octet: u8) -> bool
     ensures { result ≡ is_sign octet }
 {
-    match octet {
-        PLUS => true,
-        MINUS => true,
-        _ => false,
-    }
+    matches!(octet, PLUS | MINUS)
 }
 
 pub fn is_minus(octet: u8) -> bool
@@ -66,16 +62,7 @@ impl Clock {
     pub fn in_range(self) -> bool
         ensures { result ≡ clock_in_day self.minute self.second self.time.micros }
     {
-        let minute = self.minute;
-        let second = self.second;
-        let time = self.time;
-        if LAST_SIXTIETH < minute {
-            return false;
-        }
-        if LAST_SIXTIETH < second {
-            return false;
-        }
-        time.in_range()
+        self.minute <= LAST_SIXTIETH && self.second <= LAST_SIXTIETH && self.time.in_range()
     }
 }
 
@@ -91,22 +78,14 @@ impl Zone {
     pub fn is_minus_zero(self) -> bool
         ensures { result ≡ both self.minus (both (self.hours == 0) (self.minutes == 0)) }
     {
-        let minus = self.minus;
-        let hours = self.hours;
-        let minutes = self.minutes;
-        let plus = !minus as u64;
-        plus + hours as u64 + minutes as u64 == 0
+        let plus = !self.minus as u64;
+        plus + self.hours as u64 + self.minutes as u64 == 0
     }
 
     pub fn in_range(self) -> bool
         ensures { result ≡ both (nat_le self.hours 23) (nat_le self.minutes 59) }
     {
-        let hours = self.hours;
-        let minutes = self.minutes;
-        if 23 < hours {
-            return false;
-        }
-        minutes <= LAST_SIXTIETH
+        self.hours <= 23 && self.minutes <= LAST_SIXTIETH
     }
 
     // The sign is that of the whole: -00:30 is -30.
@@ -114,11 +93,8 @@ impl Zone {
         requires { (self.hours ≤ 23) × (self.minutes ≤ 59) }
         ensures { result.minutes ≡ offset_of self }
     {
-        let minus = self.minus;
-        let hours = self.hours;
-        let minutes = self.minutes;
-        let size = (hours * 60 + minutes) as i32;
-        if minus {
+        let size = (self.hours * 60 + self.minutes) as i32;
+        if self.minus {
             return Offset::new(-size);
         }
         Offset::new(size)

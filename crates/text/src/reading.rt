@@ -1,5 +1,5 @@
 // The reader of each kind: the refusals in the order of their numbers, each over the whole text before the next.
-ghost use Rattle.std.specs.Prelude.{◌≡◌, length};
+ghost use Rattle.std.specs.Prelude.{◌≡◌, length, IfOk};
 ghost use Rattle.format.specs.Words.{needs};
 ghost use Rattle.format.specs.Calendar.{is_day};
 ghost use Rattle.format.specs.Values as format;
@@ -8,32 +8,32 @@ ghost use Rattle.format.specs.TextReading.{digits_found};
 ghost use Rattle.format.specs.Reading.{read_as};
 ghost use Rattle.calendar.specs.Meaning.{day_from};
 ghost use Rattle.values.specs.Promise.{Parses};
+ghost use Rattle.text.specs.Outcomes.{all_but_day};
 
 use crate::cursor::Cursor;
 use crate::lengths;
 use crate::parts::Clock;
 use calendar::Date;
-use values::{Answer, Form, Refusal, Settings, Stamp, Value};
+use values::{Answer, Form, Refusal, Stamp, Value};
 
-fn is_day_of<T: Stamp>(date: Date) -> bool
-    ensures { result ≡ needs (dated T.kind) (is_day (day_from date)) }
+// All that a text says, and what `ask` says of its date: whoever calls asks for a day in his own way, and refuses where there is none.
+// The date is asked about as soon as it is there: behind all other tests the question would not be inlined.
+pub fn read_asking<T: Stamp, A: Copy, F: Fn(Date) -> A + Drop>(
+    s: &[u8],
+    ask: F,
+) -> Result<(A, Answer<Value>), Refusal>
+    requires { F.IsAlwaysCallable ask }
+    ensures asked { IfOk result (λ p. F.post ask p.1.value.date p.0) }
+    ensures read { all_but_day T.kind (read_as T.kind (format.text (digits_found T.kind (length s.now))) s.now) result }
 {
-    !T::kind().dated() || date.in_range()
-}
-
-// The calendar is asked as soon as there is a date: behind all other tests the question would not be inlined.
-pub fn read<T: Stamp>(s: &[u8]) -> Result<Answer<Value>, Refusal>
-    ensures { Parses T.kind (read_as T.kind (format.text (digits_found T.kind (length s.now))) s.now) result }
-{
-    let digits = lengths::digits_in(T::kind(), s.len());
-    if Settings::MAX_DIGITS < digits {
+    let Some(digits) = lengths::digits_in(T::kind(), s.len()) else {
         return Err(Refusal::Length);
-    }
+    };
     let start = Cursor { at: 0 };
     let Some((date, past_date)) = start.date_of::<T>(s) else {
         return Err(Refusal::Octet);
     };
-    let is_day = is_day_of::<T>(date);
+    let said = ask(date);
     let Some(past_joint) = past_date.joint_of::<T>(s) else {
         return Err(Refusal::Octet);
     };
@@ -50,21 +50,33 @@ pub fn read<T: Stamp>(s: &[u8]) -> Result<Answer<Value>, Refusal>
     if zone.is_minus_zero() {
         return Err(Refusal::Redundant);
     }
-    if !is_day {
-        return Err(Refusal::Range);
-    }
     if !clock.in_range() {
         return Err(Refusal::Range);
     }
     if !zone.in_range() {
         return Err(Refusal::Range);
     }
-    Ok(Answer {
-        form: Form::Text(digits),
-        value: Value {
-            date,
-            time: clock.time,
-            offset: zone.offset(),
-        },
-    })
+    let value = Value {
+        date,
+        time: clock.time,
+        offset: zone.offset(),
+    };
+    let form = Form::Text(digits);
+    Ok((said, Answer { form, value }))
+}
+
+fn is_day_of<T: Stamp>(date: Date) -> bool
+    ensures { result ≡ needs (dated T.kind) (is_day (day_from date)) }
+{
+    !T::kind().dated() || date.in_range()
+}
+
+pub fn read<T: Stamp>(s: &[u8]) -> Result<Answer<Value>, Refusal>
+    ensures { Parses T.kind (read_as T.kind (format.text (digits_found T.kind (length s.now))) s.now) result }
+{
+    let (is_day, answer) = read_asking::<T, bool, _>(s, |date| is_day_of::<T>(date))?;
+    if !is_day {
+        return Err(Refusal::Range);
+    }
+    Ok(answer)
 }

@@ -22,7 +22,7 @@ fn put_joint(buf: &mut [u8])
     requires { 11 ≤ length buf.old }
     ensures { buf.new ≡ slice_set buf.old 10 84 }
 {
-    octets::put1(buf, lengths::DATE, parts::T);
+    buf[lengths::DATE] = parts::T;
 }
 
 fn digits_of<T: Stamp>(digits: u32) -> u32

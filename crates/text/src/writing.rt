@@ -1,5 +1,5 @@
 // The parts of a text, each stored in words of up to eight octets.
-ghost use Rattle.std.specs.Prelude.{◌≡◌, ◌+◌, ◌/◌, ◌%◌, ◌<◌, ◌≤◌, true, false, ◌++◌, length, drop, unsigned_abs};
+ghost use Rattle.std.specs.Prelude.{◌≡◌, ◌+◌, ◌/◌, ◌%◌, ◌<◌, ◌≤◌, true, false, ◌++◌, length, drop};
 ghost use Rattle.std.proofs.lemmas.List.Edits.{sets};
 ghost use Rattle.format.specs.Calendar.{is_day};
 ghost use Rattle.format.specs.Values.{time_in_range, offset_in_range};
@@ -36,12 +36,13 @@ pub fn put_date(buf: &mut [u8], date: Date)
     requires { (is_day (day_from date) ≡ true) × (10 ≤ length buf.old) }
     ensures { buf.new ≡ sets buf.old 0 (date_octets true (day_from date)) }
 {
-    let year = date.year;
-    let month = date.month;
-    let day = date.day;
-    let century = century(year);
-    octets::put_low2(buf, 0, words::two_digits(century as u64) + 0x3030);
-    octets::put_low8(buf, 2, year_month_day(year - 100 * century, month, day));
+    let century = century(date.year);
+    octets::put_low::<2>(buf, 0, words::two_digits(century as u64) + 0x3030);
+    octets::put_low::<8>(
+        buf,
+        2,
+        year_month_day(date.year - 100 * century, date.month, date.day),
+    );
 }
 
 // ---- the time
@@ -87,10 +88,7 @@ fn point_digits(micros: u32) -> u64
 pub fn fraction_length(digits: u32) -> usize
     ensures { result ≡ width (fraction_field digits) }
 {
-    if digits == 0 {
-        return 0;
-    }
-    digits as usize + 1
+    if digits == 0 { 0 } else { digits as usize + 1 }
 }
 
 // The word to store so many octets further on: what is left of the first word, and then that many octets of the second, from its second on.
@@ -111,8 +109,8 @@ pub fn put_time(buf: &mut [u8], at: usize, digits: u32, time: Time)
     let clock = hour_minute_second(micros / 1000000);
     let fraction = point_digits((micros % 1000000) as u32);
     let octets = fraction_length(digits);
-    octets::put_low8(buf, at, clock);
-    octets::put_low8(buf, at + octets, shifted(clock, fraction, octets));
+    octets::put_low::<8>(buf, at, clock);
+    octets::put_low::<8>(buf, at + octets, shifted(clock, fraction, octets));
 }
 
 // ---- the offset
@@ -121,18 +119,6 @@ fn sign_mark(minutes: i32) -> u8
     ensures { result ≡ sign_mark minutes }
 {
     if minutes < 0 { MINUS } else { PLUS }
-}
-
-// The minutes either way. They are negated before they are split, so that the sign of -00:30 is not that of its hours.
-fn size(minutes: i32) -> u32
-    requires { unsigned_abs minutes ≤ 1439 }
-    ensures { result ≡ unsigned_abs minutes }
-{
-    if minutes < 0 {
-        (-minutes) as u32
-    } else {
-        minutes as u32
-    }
 }
 
 // The sign and the digits, added to the word of an octet 0 and `00:00`.
@@ -146,12 +132,12 @@ fn sign_hour_minute(minutes: i32, ahead: u32) -> u64
         + sign_mark(minutes) as u64
 }
 
+// The minutes lose their sign before they are split, so that the sign of -00:30 is not that of its hours.
 pub fn put_offset(buf: &mut [u8], at: usize, offset: Offset)
     requires { (offset_in_range offset.minutes ≡ true) × (at + 6 ≤ length buf.old) }
     ensures { buf.new ≡ sets buf.old at (offset_octets true offset.minutes) }
 {
     let minutes = offset.minutes;
-    let word = sign_hour_minute(minutes, size(minutes));
-    octets::put_low4(buf, at, word);
-    octets::put_low2(buf, at + 4, word / 4294967296);
+    let word = sign_hour_minute(minutes, minutes.unsigned_abs());
+    octets::put_low::<6>(buf, at, word);
 }

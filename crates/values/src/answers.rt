@@ -22,7 +22,9 @@ pub enum Decoded {
     DatetimeTz(Answer<DatetimeTz>),
 }
 
+// Inlined, so that where the kind is known no stamp is stored only to be taken apart.
 impl Decoded {
+    #[inline(always)]
     pub fn kind(self) -> Kind
         ensures { DecodedKind self result }
     {
@@ -36,6 +38,7 @@ impl Decoded {
         }
     }
 
+    #[inline(always)]
     pub fn form(self) -> Form
         ensures { DecodedForm self result }
     {
@@ -50,6 +53,7 @@ impl Decoded {
     }
 
     // All parts: those that the kind lacks are 0.
+    #[inline(always)]
     pub fn value(self) -> Value
         ensures { DecodedValue self result }
     {

@@ -13,8 +13,11 @@ returns-in_default c = sym (read_faulty c.args.file.now (λ k. omega (arith, c.t
 
 pub returns-in_err-ended : goal.returns-in_err-ended
 returns-in_err-ended c =
+    let card = c.in-Some.card in
     let e : c.from_residual.result ≡ Err c.in_err-ended.field-0.0 = search rules in
-    rw e (sym (read_faulty c.args.file.now (λ k. omega (arith, c.type_inv.file k)) _ _ c.in_err-ended.ensures))
+    rw (e, ← c.in-Some.ensures) (sym (read_faulty card.file.now card.in_octets _ _ c.in_err-ended.ensures))
 
 pub returns : goal.returns
-returns c = sym (read_ended c.args.file.now (λ k. omega (arith, c.type_inv.file k)) _ c.in_ok-ended.ensures.1)
+returns c =
+    let card = c.in-Some.card in
+    rw (← c.in-Some.ensures) (sym (read_ended card.file.now card.in_octets _ c.in_ok-ended.ensures.1))

@@ -11,12 +11,12 @@ use Rattle.format.specs.Octets.{Octets, signed_of}
 use Rattle.format.proofs.Signed.{take_octets}
 use Rattle.compact.proofs.Shortest.{octets_fit_lem}
 use Rattle.compact.proofs.reading.minutes_in.Goals as goal
-use Rattle.compact.proofs.reading.minutes_in.Goals.{After-signed_2}
+use Rattle.compact.proofs.reading.minutes_in.Goals.{After-signed}
 
-two : (c : After-signed_2) → to_z w64 (of_z w64 c.signed_2.result) ≡ signed_of (take 2 c.args.s.now)
-two c = to_z-of_z {w = w64} (record { sfits = c.signed_2.type_inv }) ∙ c.signed_2.ensures
+two : (c : After-signed) → to_z w64 (of_z w64 c.signed.result) ≡ signed_of (take 2 c.args.s.now)
+two c = to_z-of_z {w = w64} (record { sfits = c.signed.type_inv }) ∙ c.signed.ensures
 
-room : (c : After-signed_2) → SFits w32 (to_z w64 (of_z w64 c.signed_2.result))
+room : (c : After-signed) → SFits w32 (to_z w64 (of_z w64 c.signed.result))
 room c =
     let s = c.args.s.now in
     let o : Octets s = λ i. omega (arith, c.type_inv.s i) in
@@ -24,7 +24,7 @@ room c =
     rw (two c) (sfits_of (omega (arith, octets_fit_lem (take 2 s) 2 (take_octets 2 s o) (omega arith) (omega arith))))
 
 pub overflow_cast-result : goal.overflow_cast-result
-overflow_cast-result c = room (goal.at.overflow_cast-result c).After-signed_2
+overflow_cast-result c = room (goal.at.overflow_cast-result c).After-signed
 
 pub returns : goal.returns
-returns c = let d = (goal.at.returns c).After-signed_2 in to_z-of_z (room d) ∙ two d
+returns c = let d = (goal.at.returns c).After-signed in to_z-of_z (room d) ∙ two d

@@ -10,5 +10,5 @@ overflow_mul-result c = rw c.head_bits.ensures (record { fits = omega (arith, he
 
 pub overflow_add-result : goal.overflow_add-result
 overflow_add-result c =
-    let a = c.args in
-    rw (c.head_bits.ensures, c.twelve_bits.ensures) (record { fits = omega (arith, head_small (kind_from a.kind), any_bits_lt (kind_from a.kind) a.offset.minutes) })
+    rw (c.head_bits.ensures, c.twelve_bits.ensures)
+    (record { fits = omega (arith, head_small (kind_from c.args.kind), any_bits_lt (kind_from c.args.kind) c.args.offset.minutes) })

@@ -7,6 +7,5 @@ use Rattle.extended.proofs.writers.put_datetime.Goals as goal
 
 pub returns : goal.returns
 returns c =
-    let a = c.args in
-    then_stored a.buf.now _ _ 0 2 a.header _ c.put2.ensures
-    (c.put8.ensures ∙ ap (sets _ 2) (eight_octets a.day a.micros c.requires.2))
+    then_stored c.args.buf.now _ _ 0 2 c.args.header _ c.put_unsigned.ensures
+    (c.put_unsigned-2.ensures ∙ ap (sets _ 2) (eight_octets c.args.day c.args.micros c.requires.2))

@@ -1,13 +1,8 @@
--- `take4` meets its contract: loaded least significant first, and turned. Assumes nothing.
-use Rattle.std.proofs.Common.{◌∙◌, arith}
-use Rattle.octets.proofs.Joining.{four_small}
-use Rattle.octets.proofs.Turning.{taken_four}
+-- `octets::take4` meets its contract: octet by octet, most significant first. Assumes nothing.
+use Rattle.std.proofs.Common.{◌≡◌, ◌+◌, arith}
+use Rattle.format.specs.Octets.{unsigned_at}
 use Rattle.octets.proofs.words.take4.Goals as goal
 
-pub overflow_cast-take_low4 : goal.overflow_cast-take_low4
-overflow_cast-take_low4 c = omega (arith, four_small _ _ _ c.take_low4.ensures)
-
 pub returns : goal.returns
-returns c =
-    let a = c.args in
-    c.turned4.ensures ∙ taken_four a.s.now a.at _ c.take_low4.ensures
+unfolding unsigned_at
+returns c = let z : c.args.at + 0 ≡ c.args.at = omega arith in rw z (omega (arith, c.from_be_bytes.ensures))

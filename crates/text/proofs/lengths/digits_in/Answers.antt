@@ -1,32 +1,30 @@
 -- `digits_in` meets its contract: one length without a fraction, six with one, where there is a time. Assumes nothing.
-use Rattle.std.proofs.Common.{◌≡◌, true, sym, ◌∙◌, arith}
-use Rattle.format.specs.Values.{timed}
-use Rattle.format.proofs.Cases.{not_true, not_false}
+use Rattle.std.proofs.Common.{sym, ⊎_elim, arith}
 use Rattle.values.specs.Meaning.{kind_from}
 use Rattle.text.proofs.DigitsFound.{whole_small, found_whole, none_plain, none_part, found_part}
 use Rattle.text.proofs.lengths.digits_in.Goals as goal
-use Rattle.text.proofs.lengths.digits_in.Goals.{Else-not-timed}
-
-has : (c : Else-not-timed) → timed (kind_from c.before.before.before.before.args.kind) ≡ true
-has c = sym c.before.timed.ensures ∙ not_false _ c.if-not-timed.false-raw
 
 pub returns-then-octets-whole : goal.returns-then-octets-whole
-returns-then-octets-whole c = found_whole _ _ _ c.whole_length-whole.ensures c.if-octets-whole.true
+returns-then-octets-whole c = (found_whole _ _ _ c.whole_length-whole.ensures c.if-octets-whole.true, omega arith)
 
 pub returns-then-not-timed : goal.returns-then-not-timed
-returns-then-not-timed c = none_plain _ _ _ c.whole_length-whole.ensures c.if-octets-whole.false (sym c.timed.ensures ∙ not_true _ c.if-not-timed.true-raw)
+returns-then-not-timed c = omega (arith, none_plain _ _ _ c.whole_length-whole.ensures c.if-octets-whole.false (sym c.if-not-timed.ensures))
 
-pub overflow_add-whole : goal.overflow_add-whole
-overflow_add-whole c = omega (arith, c.whole_length-whole.ensures, whole_small (kind_from c.args.kind))
+pub overflow_add-shortest : goal.overflow_add-shortest
+overflow_add-shortest c = omega (arith, c.whole_length-whole.ensures, whole_small (kind_from c.args.kind))
 
-pub returns-then-octets-whole-2 : goal.returns-then-octets-whole-2
-returns-then-octets-whole-2 c = none_part _ _ _ c.whole_length-whole.ensures (has (goal.at.returns-then-octets-whole-2 c).Else-not-timed) c.if-octets-whole.false (λ a b. omega (arith, a, c.if-octets-whole-2.true))
+pub overflow_add-longest : goal.overflow_add-longest
+overflow_add-longest c = omega (arith, c.whole_length-whole.ensures, whole_small (kind_from c.args.kind))
 
-pub overflow_add-whole-3 : goal.overflow_add-whole-3
-overflow_add-whole-3 c = omega (arith, c.whole_length-whole.ensures, whole_small (kind_from c.args.kind))
+pub overflow_add-longest-2 : goal.overflow_add-longest-2
+overflow_add-longest-2 c = omega (arith, c.whole_length-whole.ensures, whole_small (kind_from c.args.kind))
 
-pub returns-then-whole-octets : goal.returns-then-whole-octets
-returns-then-whole-octets c = none_part _ _ _ c.whole_length-whole.ensures (has (goal.at.returns-then-whole-octets c).Else-not-timed) c.if-octets-whole.false (λ a b. omega (arith, b, c.if-whole-octets.true))
+pub returns-then-octets-shortest : goal.returns-then-octets-shortest
+returns-then-octets-shortest c =
+    let none = none_part _ _ _ c.whole_length-whole.ensures (sym c.if-not-timed.ensures) c.if-octets-whole.false
+    (λ a b. ⊎_elim (λ e. omega (arith, a, e)) (λ e. omega (arith, b, e.1)) c.then-octets-shortest.either) in
+    omega (arith, none)
 
 pub returns : goal.returns
-returns c = found_part _ _ _ c.whole_length-whole.ensures (has (goal.at.returns c).Else-not-timed) c.if-octets-whole-2.false (omega (arith, c.if-whole-octets.false))
+returns c =
+    (found_part _ _ _ c.whole_length-whole.ensures (sym c.if-not-timed.ensures) c.if-octets-shortest.false (omega (arith, c.if-longest-octets.false)), omega (arith, c.if-longest-octets.false))

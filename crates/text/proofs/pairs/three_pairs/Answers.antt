@@ -1,23 +1,13 @@
 -- `three_pairs` meets its contract: the word's test tells of its eight octets. Assumes nothing.
-use Rattle.std.proofs.Common.{sym, ◌∙◌, arith}
-use lib.Bits.{bit_xor}
-use Rattle.format.proofs.Cases.{not_true, not_false}
-use Rattle.text.proofs.PairLaws.{zeros_with, three_refused, three_read, ThreeRead}
+use Rattle.std.proofs.Common.{arith}
+use Rattle.text.proofs.PairLaws.{three_refused, three_read}
 use Rattle.text.proofs.pairs.three_pairs.Goals as goal
-use Rattle.text.proofs.pairs.three_pairs.Goals.{Else-not-is_clean}
 
--- the word, once it was tested
-tested : (c : Else-not-is_clean) → ThreeRead c.before.before.before.before.args.s.now c.before.before.before.before.args.at c.before.before.take_low8.result c.before.before.before.before.args.mark (bit_xor c.before.before.take_low8.result (zeros_with c.before.before.before.before.args.mark))
-tested c = three_read _ _ _ c.before.before.before.before.args.mark (omega arith) c.before.before.take_low8.ensures (sym c.before.is_clean.ensures ∙ not_false _ c.if-not-is_clean.false-raw)
+pub numbers_in-requires : goal.numbers_in-requires
+numbers_in-requires c = λ e. omega (arith, (three_read _ _ _ c.args.mark (omega arith) c.take_low.ensures e).small)
 
-pub returns-then-not-is_clean : goal.returns-then-not-is_clean
-returns-then-not-is_clean c = three_refused _ _ _ c.args.mark (omega arith) c.take_low8.ensures (sym c.is_clean.ensures ∙ not_true _ c.if-not-is_clean.true-raw)
-
-pub overflow_mul-pairs : goal.overflow_mul-pairs
-overflow_mul-pairs c = omega (arith, (tested (goal.at.overflow_mul-pairs c).Else-not-is_clean).small)
-
-pub overflow_add-pairs : goal.overflow_add-pairs
-overflow_add-pairs c = omega (arith, (tested (goal.at.overflow_add-pairs c).Else-not-is_clean).small)
+pub returns-in_err-pairs : goal.returns-in_err-pairs
+returns-in_err-pairs c = rw c.from_residual.ensures (three_refused _ _ _ c.args.mark (omega arith) c.take_low.ensures c.in_err-pairs.ensures)
 
 pub returns : goal.returns
-returns c = (tested (goal.at.returns c).Else-not-is_clean).read
+returns c = rw c.in_ok-pairs.ensures.1 (three_read _ _ _ c.args.mark (omega arith) c.take_low.ensures c.in_ok-pairs.ensures.0).read

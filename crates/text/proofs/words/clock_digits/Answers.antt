@@ -3,11 +3,8 @@ use Rattle.std.proofs.Common.{refl, arith}
 use Rattle.text.proofs.Lanes.{clock_tens, clock_digits}
 use Rattle.text.proofs.words.clock_digits.Goals as goal
 
-pub overflow_mul-result-2 : goal.overflow_mul-result-2
-overflow_mul-result-2 c = omega (arith, c.requires, clock_tens c.args.a c.args.b c.args.c c.requires)
-
-pub overflow_sub-result : goal.overflow_sub-result
-overflow_sub-result c = omega (arith, c.requires, clock_tens c.args.a c.args.b c.args.c c.requires)
+pub digits_in-requires : goal.digits_in-requires
+digits_in-requires c = (omega (arith, c.requires), omega (arith, c.requires, clock_tens c.args.a c.args.b c.args.c c.requires))
 
 pub returns : goal.returns
-returns c = clock_digits c.args.a c.args.b c.args.c c.requires _ _ refl (clock_tens c.args.a c.args.b c.args.c c.requires)
+returns c = rw c.digits_in.ensures (clock_digits c.args.a c.args.b c.args.c c.requires _ _ refl (clock_tens c.args.a c.args.b c.args.c c.requires))

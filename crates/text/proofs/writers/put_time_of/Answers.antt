@@ -1,7 +1,6 @@
 -- `put_time_of` meets its contract: a part that a kind lacks takes no octets, and a `T` stands before the time behind a date. Assumes nothing.
-use Rattle.std.proofs.Common.{◌≡◌, true, false, sym, ap, ◌∙◌, arith}
+use Rattle.std.proofs.Common.{◌≡◌, true, false, sym, ◌∙◌, arith}
 use Rattle.format.specs.Values.{dated, timed}
-use Rattle.format.proofs.Cases.{not_true, not_false}
 use Rattle.text.proofs.Putting.{joint_stored}
 use Rattle.text.proofs.TextWriters.{no_time, time_room}
 use Rattle.text.proofs.writers.put_time_of.Given.{Over}
@@ -9,15 +8,13 @@ use Rattle.text.proofs.writers.put_time_of.Goals as goal
 use Rattle.text.proofs.writers.put_time_of.Goals.{After-dated}
 
 there : (g : Over) (c : After-dated g) → timed g.T.Stamp.kind ≡ true
-there g c = ap timed (sym c.kind.ensures) ∙ sym c.timed.ensures ∙ not_false _ c.if-not-timed.false-raw
+there g c = rw c.kind.ensures at (sym c.if-not-timed.ensures)
 
 date_is : (g : Over) (c : After-dated g) → dated g.T.Stamp.kind ≡ c.dated.result
-date_is g c = ap dated (sym c.kind-2.ensures) ∙ sym c.dated.ensures
+date_is g c = rw c.kind-2.ensures at (sym c.dated.ensures)
 
 pub returns-then-not-timed : goal.returns-then-not-timed
-returns-then-not-timed g c =
-    let none : timed g.T.Stamp.kind ≡ false = ap timed (sym c.kind.ensures) ∙ sym c.timed.ensures ∙ not_true _ c.if-not-timed.true-raw in
-    rw none (no_time _ _ _ _ _)
+returns-then-not-timed g c = rw (← c.kind.ensures, ← c.if-not-timed.ensures) (no_time _ _ _ _ _)
 
 pub put_joint-requires : goal.put_joint-requires
 put_joint-requires g c =
@@ -38,8 +35,3 @@ pub put_time-requires-2 : goal.put_time-requires-2
 put_time-requires-2 g c =
     let p = (goal.at.put_time-requires-2 g c).After-dated in
     (rw (there g p) at c.requires.0, c.requires.1, omega (arith, time_room g.T.Stamp.kind c.args.digits (there g p) false (date_is g p ∙ c.if-dated.false) c.requires.2))
-
-pub returns : goal.returns
-returns g c =
-    let p = (goal.at.returns g c).After-dated in
-    c.put_time-2.ensures ∙ rw (there g p, date_is g p ∙ c.if-dated.false)

@@ -1,11 +1,10 @@
 -- `write` meets its contract: a part out of its range; the buffer too short; the parts stored, each at its place. Assumes nothing.
-use Rattle.std.proofs.Common.{arith}
+use Rattle.std.proofs.Common.{sym, arith}
 use Rattle.format.specs.Words.{if_any}
 use Rattle.format.specs.Values.{dated, timed, zoned}
 use Rattle.values.specs.Meaning.{value_from}
-use Rattle.text.proofs.Rows.{passes, fails}
 use Rattle.text.proofs.Wholes.{if_most, date_width, zone_width, parts_long}
-use Rattle.text.proofs.TextWriters.{Ready, ready, out_of_range, no_room, written}
+use Rattle.text.proofs.TextWriters.{Ready, ready, no_room, written}
 use Rattle.text.proofs.writers.write.Given.{Over}
 use Rattle.text.proofs.writers.write.Goals as goal
 use Rattle.text.proofs.writers.write.Goals.{After-text_length-length}
@@ -13,11 +12,8 @@ use Rattle.text.proofs.writers.write.Goals.{After-text_length-length}
 -- what the test of the value leaves
 made_ready : (g : Over) (c : After-text_length-length g) → Ready g.T.Stamp.kind (if_any (timed g.T.Stamp.kind) c.args.digits) (value_from c.args.value) c.text_length-length.result
 made_ready g c =
-    ready (rw c.kind.ensures at (passes c.in_range.ensures c.if-not-in_range.false-raw)) (omega (arith, if_most (timed g.T.Stamp.kind) c.args.digits, c.requires))
+    ready (rw c.kind.ensures at (sym c.if-not-in_range.ensures)) (omega (arith, if_most (timed g.T.Stamp.kind) c.args.digits, c.requires))
     (rw (c.kind-2.ensures, c.digits_of-digits.ensures) at c.text_length-length.ensures)
-
-pub returns-then-not-in_range : goal.returns-then-not-in_range
-returns-then-not-in_range g c = out_of_range _ _ _ _ (rw c.kind.ensures at (fails c.in_range.ensures c.if-not-in_range.true-raw))
 
 pub returns-then-buf-length : goal.returns-then-buf-length
 returns-then-buf-length g c = no_room (made_ready g (goal.at.returns-then-buf-length g c).After-text_length-length) _ c.if-buf-length.true

@@ -8,5 +8,5 @@ pub returns-then-digits-eq0 : goal.returns-then-digits-eq0
 unfolding width
 returns-then-digits-eq0 c = rw c.if-digits-eq0.true
 
-pub returns : goal.returns
-returns c = omega (arith, part_width c.args.digits c.if-digits-eq0.false)
+pub returns-else-digits-eq0 : goal.returns-else-digits-eq0
+returns-else-digits-eq0 c = omega (arith, part_width c.args.digits c.if-digits-eq0.false)

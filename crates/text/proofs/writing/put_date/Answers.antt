@@ -21,6 +21,6 @@ pub returns : goal.returns
 returns c =
     let s = date_small (day_from c.args.date) c.requires.0 in
     let h = c.century-century.result in
-    c.put_low8.ensures
-    ∙ rw (c.put_low2.ensures, c.year_month_day.ensures, c.two_digits.ensures.word, two_word h (omega (arith, c.century-century.ensures, s.0)))
+    c.put_low-2.ensures
+    ∙ rw (c.put_low.ensures, c.year_month_day.ensures, c.two_digits.ensures.word, two_word h (omega (arith, c.century-century.ensures, s.0)))
     (date_stored c.args.buf.now (day_from c.args.date) h (c.args.date.year - 100 * h) c.century-century.ensures (omega (arith, c.century-century.ensures)))

@@ -14,7 +14,7 @@ shifted-requires c =
 pub returns : goal.returns
 returns c =
     let few = fraction_narrow c.args.digits in
-    c.put_low8-2.ensures
-    ∙ rw (c.put_low8.ensures, c.shifted.ensures)
+    c.put_low-2.ensures
+    ∙ rw (c.put_low.ensures, c.shifted.ensures)
     (time_stored c.args.buf.now c.args.at c.args.digits c.args.time.micros c.hour_minute_second-clock.result (c.point_digits-fraction.result / 256) c.fraction_length-octets.result
     c.requires.1 c.fraction_length-octets.ensures (omega (arith, c.fraction_length-octets.ensures, few, c.requires.1)) c.hour_minute_second-clock.ensures c.point_digits-fraction.ensures.octets)

@@ -1,10 +1,7 @@
 -- `sign_hour_minute` meets its contract: the word law, once each part is two digits. Assumes nothing.
-use Rattle.std.proofs.Common.{◌-◌, ◌*◌, ◌/◌, refl, arith, to_z-of_z, w32, to_z, of_z}
-use Rattle.text.proofs.PuttingWords.{mark_small, offset_word}
+use Rattle.std.proofs.Common.{◌-◌, ◌*◌, ◌/◌, refl, arith, to_z-of_z}
+use Rattle.text.proofs.PuttingWords.{offset_word}
 use Rattle.text.proofs.writing.sign_hour_minute.Goals as goal
-
-pub overflow_add-result-2 : goal.overflow_add-result-2
-overflow_add-result-2 c = omega (arith, c.sign_mark.ensures, mark_small (to_z w32 (of_z w32 c.args.minutes)), c.offset_digits.ensures.small)
 
 pub returns : goal.returns
 returns c =

@@ -1,10 +1,7 @@
 -- `date_of` meets its contract: fields that a kind lacks take no octets. Assumes nothing.
-use Rattle.std.proofs.Common.{◌≡◌, false, sym, ap, ◌∙◌, arith}
-use Rattle.format.specs.Values.{dated}
+use Rattle.std.proofs.Common.{arith}
 use Rattle.text.proofs.Wholes.{absent_read}
 use Rattle.text.proofs.cursor.Cursor.date_of.Goals as goal
 
 pub returns : goal.returns
-returns g c =
-    let none : dated g.T.Stamp.kind ≡ false = ap dated (sym c.kind.ensures) ∙ sym c.dated.ensures ∙ c.if-dated.false in
-    rw (none, c.new.ensures) (absent_read 3 _ _, omega arith)
+returns g c = rw (← c.kind.ensures, ← c.if-dated.ensures, c.new.ensures) (absent_read 3 _ _, omega arith)

@@ -14,15 +14,6 @@ wide c = part_width c.before.before.args.digits (omega (arith, c.if-digits-eq3.t
 pub thousandths-requires : goal.thousandths-requires
 thousandths-requires c = omega (arith, c.requires.0, wide (goal.at.thousandths-requires c).Then-digits-eq3)
 
-pub returns-in_err-micros : goal.returns-in_err-micros
-returns-in_err-micros c = rw c.from_residual.ensures (sym (ap number_row c.in_err-micros.was) ∙ c.thousandths.ensures ∙ rw c.if-digits-eq3.true, tt)
-
 pub returns-then-digits-eq3 : goal.returns-then-digits-eq3
 returns-then-digits-eq3 c =
     (sym (ap number_row c.in_ok-micros.was) ∙ c.thousandths.ensures ∙ rw c.if-digits-eq3.true, omega (arith, wide (goal.at.returns-then-digits-eq3 c).Then-digits-eq3))
-
-pub returns-in_err-micros-2 : goal.returns-in_err-micros-2
-returns-in_err-micros-2 c = rw c.from_residual-in_err-micros-2.ensures (sym (ap number_row c.in_err-micros-2.was) ∙ c.digit_by_digit.ensures, tt)
-
-pub returns : goal.returns
-returns c = (sym (ap number_row c.in_ok-micros-2.was) ∙ c.digit_by_digit.ensures, rw c.fraction_length.ensures)
