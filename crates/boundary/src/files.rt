@@ -3,6 +3,7 @@ ghost use Rattle.std.specs.Prelude.{◌<◌, ◌^◌, ◌≡◌};
 ghost use Rattle.schedule.specs.Meaning.{record_from, held_from, found};
 ghost use Rattle.boundary.specs.Files.{record_numbers, held_numbers, held_or_zeros, in_words, held_in_words, HandsRecord, ReadForC, RecordForC, HoldsForC, OverForC};
 
+use crate::handing::handed;
 use instants::Instant;
 use schedule::{Fault, Record, Refusal, Source};
 
@@ -24,33 +25,22 @@ pub fn stamp_schedule_read(file: &[u8], records: &mut u32, fault: &mut u32) -> u
 }
 
 // What a file holds has its place there, so that the casts keep it.
-fn put_record(shown: Record, parts: &mut [i64; 5])
+fn record_parts(shown: Record) -> [i64; 5]
     requires { (shown.start < 2 ^ 63) × (shown.length < 2 ^ 63) }
-    ensures { parts.new ≡ record_numbers (record_from shown) }
+    ensures { result ≡ record_numbers (record_from shown) }
 {
     let channel = shown.channel as i64;
+    let micros = shown.instant.micros;
     let start = shown.start as i64;
     let length = shown.length as i64;
-    *parts = [
-        channel,
-        shown.correction,
-        shown.instant.micros,
-        start,
-        length,
-    ];
+    [channel, shown.correction, micros, start, length]
 }
 
 fn hand_record(answer: Result<Record, Refusal>, parts: &mut [i64; 5]) -> u32
     requires { in_words (found answer) }
     ensures { HandsRecord (found answer) parts.old result parts.new }
 {
-    match answer {
-        Ok(record) => {
-            put_record(record, parts);
-            0
-        }
-        Err(refusal) => refusal.into(),
-    }
+    handed(answer, parts, record_parts)
 }
 
 pub fn stamp_schedule_record(file: &[u8], place: u32, parts: &mut [i64; 5]) -> u32

@@ -1,5 +1,6 @@
-// What was read, handed over to C as eight numbers.
-ghost use Rattle.std.specs.Prelude.{◌≡◌, ◌≤◌};
+// What was found, handed over to C; what was read as eight numbers.
+ghost use Rattle.std.specs.Prelude.{◌≡◌, ◌≤◌, MatchResult};
+ghost use Rattle.std.specs.Result.{ForOk};
 ghost use Rattle.format.specs.Values as format;
 ghost use Rattle.format.specs.Reading.{read};
 ghost use Rattle.values.specs.Meaning.{form_from, kind_from, value_from};
@@ -7,6 +8,24 @@ ghost use Rattle.boundary.specs.Boundary.{form_number, form_digits, numbers_of, 
 
 use calendar::Date;
 use values::{DateTz, Datetime, DatetimeTz, Form, Kind, Stamp, Time, TimeTz, Value};
+
+// The number answered: 0, with what was found handed over as `shown` shows it, or the refusal's, with nothing handed over.
+pub(crate) fn handed<T, E: Into<u32>, N: Copy, F: FnOnce(T) -> N + Drop>(
+    answer: Result<T, E>,
+    to: &mut N,
+    shown: F,
+) -> u32
+    requires { ForOk answer (F.pre shown) }
+    ensures { MatchResult answer (λ x. (result ≡ 0) × F.post shown x to.new) (λ e. E.converts e result × (to.new ≡ to.old)) }
+{
+    match answer {
+        Ok(found) => {
+            *to = shown(found);
+            0
+        }
+        Err(refusal) => refusal.into(),
+    }
+}
 
 // What was read has a time in range, so that its cast keeps it.
 fn put_numbers(parts: &mut [i64; 8], kind: Kind, form: u32, digits: u32, value: Value)

@@ -67,7 +67,7 @@ fn write_numbered(
     write_known(kind, value, settings, octets)
 }
 
-// Parts that the kind lacks are not looked at.
+// Numbers and a flag, as C has them. Parts that the kind lacks are not looked at.
 pub fn stamp_write(
     kind: u32,
     year: u32,

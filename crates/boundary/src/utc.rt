@@ -5,6 +5,7 @@ ghost use Rattle.values.specs.Meaning.{datetime_tz_value};
 ghost use Rattle.instants.specs.Meaning.{found, stated};
 ghost use Rattle.boundary.specs.Utc.{stamp_numbers, in_day, HandsNumber, HandsStamp, InstantForC, AddForC, DifferenceForC, AtForC, RestateForC};
 
+use crate::handing::handed;
 use calendar::Date;
 use instants::{Instant, Refusal};
 use values::{DatetimeTz, Offset, Time};
@@ -23,39 +24,27 @@ fn stamp_by_parts(year: u32, month: u32, day: u32, micros: u64, offset: i32) -> 
 fn hand_instant(answer: Result<Instant, Refusal>, to: &mut i64) -> u32
     ensures { HandsNumber (found answer) to.old result to.new }
 {
-    match answer {
-        Ok(instant) => {
-            *to = instant.micros;
-            0
-        }
-        Err(refusal) => refusal.into(),
-    }
+    handed(answer, to, |instant| instant.micros)
 }
 
 // What the calls state has a time of the day, so that its cast keeps it.
-fn put_stamp(stamp: DatetimeTz, parts: &mut [i64; 5])
+fn stamp_parts(stamp: DatetimeTz) -> [i64; 5]
     requires { stamp.time.micros ≤ end_of_day }
-    ensures { parts.new ≡ stamp_numbers (datetime_tz_value stamp) }
+    ensures { result ≡ stamp_numbers (datetime_tz_value stamp) }
 {
     let year = stamp.date.year as i64;
     let month = stamp.date.month as i64;
     let day = stamp.date.day as i64;
     let micros = stamp.time.micros as i64;
     let minutes = stamp.offset.minutes as i64;
-    *parts = [year, month, day, micros, minutes];
+    [year, month, day, micros, minutes]
 }
 
 fn hand_stamp(answer: Result<DatetimeTz, Refusal>, parts: &mut [i64; 5]) -> u32
     requires { in_day (stated answer) }
     ensures { HandsStamp (stated answer) parts.old result parts.new }
 {
-    match answer {
-        Ok(stamp) => {
-            put_stamp(stamp, parts);
-            0
-        }
-        Err(refusal) => refusal.into(),
-    }
+    handed(answer, parts, stamp_parts)
 }
 
 // ---- the calls
@@ -86,13 +75,7 @@ pub fn stamp_difference(a: i64, b: i64, difference: &mut i64) -> u32
 {
     let one = Instant::new(a);
     let other = Instant::new(b);
-    match one.difference(other) {
-        Ok(micros) => {
-            *difference = micros;
-            0
-        }
-        Err(refusal) => refusal.into(),
-    }
+    handed(one.difference(other), difference, |micros| micros)
 }
 
 pub fn stamp_at(instant: i64, offset: i32, parts: &mut [i64; 5]) -> u32

@@ -57,41 +57,12 @@ fn put_number(kind: Kind, buf: &mut [u8], at: usize, n: usize, x: i64)
     requires { at + n ≤ length buf.old }
     ensures { buf.new ≡ sets buf.old at (signed_octets n x) }
 {
-    match kind {
-        Kind::Date | Kind::DateTz => put_days(buf, at, n, x),
-        Kind::Time | Kind::TimeTz => put_millis(buf, at, n, x),
-        Kind::Datetime | Kind::DatetimeTz => put_t(buf, at, n, x),
-    }
-}
-
-fn put_days(buf: &mut [u8], at: usize, n: usize, x: i64)
-    requires { at + n ≤ length buf.old }
-    ensures { buf.new ≡ sets buf.old at (signed_octets n x) }
-{
-    match n {
-        3 => octets::put_signed::<3>(buf, at, x),
-        2 => octets::put_signed::<2>(buf, at, x),
-        _ => octets::put_signed_in(buf, at, n, x),
-    }
-}
-
-fn put_millis(buf: &mut [u8], at: usize, n: usize, x: i64)
-    requires { at + n ≤ length buf.old }
-    ensures { buf.new ≡ sets buf.old at (signed_octets n x) }
-{
-    match n {
-        4 => octets::put_signed::<4>(buf, at, x),
-        _ => octets::put_signed_in(buf, at, n, x),
-    }
-}
-
-fn put_t(buf: &mut [u8], at: usize, n: usize, x: i64)
-    requires { at + n ≤ length buf.old }
-    ensures { buf.new ≡ sets buf.old at (signed_octets n x) }
-{
-    match n {
-        4..=6 => octets::put_signed_4_to_6(buf, at, n, x),
-        7 => octets::put_signed::<7>(buf, at, x),
+    match (kind, n) {
+        (Kind::Date | Kind::DateTz, 2) => octets::put_signed::<2>(buf, at, x),
+        (Kind::Date | Kind::DateTz, 3) => octets::put_signed::<3>(buf, at, x),
+        (Kind::Time | Kind::TimeTz, 4) => octets::put_signed::<4>(buf, at, x),
+        (Kind::Datetime | Kind::DatetimeTz, 4..=6) => octets::put_signed_4_to_6(buf, at, n, x),
+        (Kind::Datetime | Kind::DatetimeTz, 7) => octets::put_signed::<7>(buf, at, x),
         _ => octets::put_signed_in(buf, at, n, x),
     }
 }

@@ -98,7 +98,7 @@ impl fmt::Display for Holding {
     }
 }
 
-// ---- the calls of `stamp`, by kind
+// ---- the calls of `stamp`, by kind, which is known only when the program runs: no closure is generic over types
 
 fn write(kind: Kind, value: Value, settings: Settings, buf: &mut [u8]) -> Result<usize, Refusal> {
     match kind {

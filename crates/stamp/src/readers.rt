@@ -48,6 +48,7 @@ pub fn read<T: Stamp>(s: &[u8]) -> Result<Decoded, Refusal>
 
 // ---- either-or: the kind that is chosen, and its reader
 
+// A kind that is known only when the program runs becomes a type here: no closure is generic over types.
 fn read_kind(kind: Kind, s: &[u8]) -> Result<Decoded, Refusal>
     ensures { Reads (reading.read (kind_from kind) s.now) result }
 {

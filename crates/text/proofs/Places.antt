@@ -12,6 +12,7 @@ use Rattle.format.proofs.Cases.{both_true}
 use Rattle.format.proofs.Fields.{Whole}
 use Rattle.calendar.specs.declared.Date.{Date}
 use Rattle.calendar.specs.Meaning.{day_from}
+use Rattle.text.specs.declared.fraction.Digits.{Digits}
 use Rattle.text.specs.declared.parts.Clock.{Clock}
 use Rattle.text.specs.declared.parts.Zone.{Zone}
 use Rattle.text.specs.declared.cursor.Cursor.{Cursor}
@@ -73,8 +74,8 @@ pub record Said (k : Kind) (d : ℕ) (s : List ℕ) (x : Day) (t : Clock) (z : Z
 abbrev pub clock_with : ℕ → ℕ → ℕ → ℕ → Clock
 clock_with h m n u = record { minute = m; second = n; time = record { micros = micros_of h m n u } }
 
-pub open_text : {k j : Kind} {d : ℕ} {s : List ℕ} → j ≡ k → (d ≡ digits_found j (length s)) × (d ≤ 6) → Opened k d s
-open_text e h = record { found = rw e at h.0; few = h.1 }
+pub open_text : {k j : Kind} {s : List ℕ} (x : Digits) → j ≡ k → x.number ≡ digits_found j (length s) → Opened k x.number s
+open_text x e h = record { found = rw e at h; few = x.few }
 
 module _ {k : Kind} {d : ℕ} {s : List ℕ} (o : Opened k d s) where
   long : length s ≡ widths (date_row (dated k)) + (widths (clock_row (timed k) (dated k) d) + widths (offset_row (zoned k)))
@@ -181,8 +182,8 @@ module _ {k : Kind} {d : ℕ} {s : List ℕ} {x : Day} {h m n a : ℕ} (f : Pair
   pub clock_small : (h ≤ 255) × (m ≤ 255) × (n ≤ 255)
   clock_small = (omega (arith, f.small.first), omega (arith, f.small.second), omega (arith, f.small.third))
 
-  pub part_room : (a + width (fraction_field (if_any (timed k) d)) ≤ length s) × (d ≤ 6)
-  part_room = (omega (arith, f.next, f.date.next, long f.opened), f.opened.few)
+  pub part_room : a + width (fraction_field (if_any (timed k) d)) ≤ length s
+  part_room = omega (arith, f.next, f.date.next, long f.opened)
 
   pub part_wrong : {r : Option (ℕ × Cursor)} → r ≡ None → parted_row r ≡ part_at (if_any (timed k) d) s a → Refuses k s 6
   part_wrong e g =

@@ -9,6 +9,7 @@ ghost use Rattle.text.specs.Putting.{fraction_field};
 ghost use Rattle.text.specs.Pairs.{row_at, part_at};
 ghost use Rattle.text.specs.Cursors.{dated_row, timed_row, parted_row, zoned_row, dated_to, joined_to, timed_to, parted_to, zoned_to, joint_by, pairs_by};
 
+use crate::fraction::Digits;
 use crate::parts::Zone;
 use crate::{fraction, lengths, pairs, parts, writing};
 use calendar::Date;
@@ -62,12 +63,12 @@ impl Cursor {
     }
 
     // The microseconds of a second.
-    pub fn fraction(self, s: &[u8], digits: u32) -> Option<(u32, Cursor)>
-        requires { (self.at + width (fraction_field digits) ≤ length s.now) × (digits ≤ 6) }
-        ensures { (parted_row result ≡ part_at digits s.now self.at) × parted_to (self.at + width (fraction_field digits)) result }
+    pub fn fraction(self, s: &[u8], digits: Digits) -> Option<(u32, Cursor)>
+        requires { self.at + width (fraction_field digits.number) ≤ length s.now }
+        ensures { (parted_row result ≡ part_at digits.number s.now self.at) × parted_to (self.at + width (fraction_field digits.number)) result }
     {
         // the usual ones, as a word
-        if digits == 3 {
+        if digits.number == 3 {
             let micros = pairs::thousandths(s, self.at)?;
             return Some((micros, Cursor { at: self.at + 4 }));
         }
@@ -135,9 +136,9 @@ impl Cursor {
     }
 
     // Only a time has digits.
-    pub fn fraction_of<T: Stamp>(self, s: &[u8], digits: u32) -> Option<(u32, Cursor)>
-        requires { (self.at + width (fraction_field (if_any (timed T.kind) digits)) ≤ length s.now) × (digits ≤ 6) }
-        ensures { (parted_row result ≡ part_at (if_any (timed T.kind) digits) s.now self.at) × parted_to (self.at + width (fraction_field (if_any (timed T.kind) digits))) result }
+    pub fn fraction_of<T: Stamp>(self, s: &[u8], digits: Digits) -> Option<(u32, Cursor)>
+        requires { self.at + width (fraction_field (if_any (timed T.kind) digits.number)) ≤ length s.now }
+        ensures { (parted_row result ≡ part_at (if_any (timed T.kind) digits.number) s.now self.at) × parted_to (self.at + width (fraction_field (if_any (timed T.kind) digits.number))) result }
     {
         if T::kind().timed() {
             return self.fraction(s, digits);

@@ -5,12 +5,18 @@ ghost use Rattle.format.specs.Text.{fraction_unit};
 ghost use Rattle.text.specs.Putting.{fraction_field};
 ghost use Rattle.text.specs.Pairs.{part_at, number_row};
 
+// How many digits a fraction has.
+#[derive(Clone, Copy)]
+pub struct Digits {
+    pub number: u32,
+    ghost few: { number ≤ 6 },
+}
+
 // What the last of so many fraction digits counts, in microseconds: a `match`, where a power would be a loop.
-fn fraction_unit(digits: u32) -> u32
-    requires { digits ≤ 6 }
-    ensures { result ≡ fraction_unit digits }
+fn fraction_unit(digits: Digits) -> u32
+    ensures { result ≡ fraction_unit digits.number }
 {
-    match digits {
+    match digits.number {
         0 => 1_000_000,
         1 => 100_000,
         2 => 10_000,
@@ -22,11 +28,11 @@ fn fraction_unit(digits: u32) -> u32
 }
 
 // However many digits.
-pub fn digit_by_digit(s: &[u8], at: usize, digits: u32) -> Option<u32>
-    requires { (at + width (fraction_field digits) ≤ length s.now) × (digits ≤ 6) }
-    ensures { number_row result ≡ part_at digits s.now at }
+pub fn digit_by_digit(s: &[u8], at: usize, digits: Digits) -> Option<u32>
+    requires { at + width (fraction_field digits.number) ≤ length s.now }
+    ensures { number_row result ≡ part_at digits.number s.now at }
 {
-    if digits == 0 {
+    if digits.number == 0 {
         return Some(0);
     }
     if s[at] != b'.' {
@@ -34,7 +40,7 @@ pub fn digit_by_digit(s: &[u8], at: usize, digits: u32) -> Option<u32>
     }
     let first = at + 1;
     let mut number: u32 = 0;
-    for octet in &s[first..first + digits as usize] {
+    for octet in &s[first..first + digits.number as usize] {
         if !octet.is_ascii_digit() {
             return None;
         }

@@ -1,10 +1,11 @@
 // The lengths of texts and of their parts, and how many fraction digits a text has.
-ghost use Rattle.std.specs.Prelude.{◌≡◌, ◌≤◌};
+ghost use Rattle.std.specs.Prelude.{◌≡◌};
 ghost use Rattle.format.specs.Text.{text_length};
 ghost use Rattle.format.specs.TextReading.{digits_found};
 ghost use Rattle.values.specs.Meaning.{kind_from};
 ghost use Rattle.text.specs.Parts.{counted};
 
+use crate::fraction::Digits;
 use crate::writing;
 use values::{Kind, Settings};
 
@@ -42,9 +43,8 @@ fn whole_length(kind: Kind) -> usize
 }
 
 // The length of a text with so many digits.
-pub fn text_length(kind: Kind, digits: u32) -> usize
-    requires { digits ≤ 6 }
-    ensures { result ≡ text_length (kind_from kind) digits }
+pub fn text_length(kind: Kind, digits: Digits) -> usize
+    ensures { result ≡ text_length (kind_from kind) digits.number }
 {
     let whole = whole_length(kind);
     if kind.timed() {
@@ -55,12 +55,12 @@ pub fn text_length(kind: Kind, digits: u32) -> usize
 
 // How many fraction digits a text of this kind and length has; None where there is no such text.
 // A point stands before the digits: so no text is one octet longer than the shortest.
-pub fn digits_in(kind: Kind, octets: usize) -> Option<u32>
+pub fn digits_in(kind: Kind, octets: usize) -> Option<Digits>
     ensures { counted (digits_found (kind_from kind) octets) result }
 {
     let whole = whole_length(kind);
     if octets == whole {
-        return Some(0);
+        return Some(Digits { number: 0 });
     }
     if !kind.timed() {
         return None;
@@ -70,5 +70,7 @@ pub fn digits_in(kind: Kind, octets: usize) -> Option<u32>
     if octets < shortest || longest < octets {
         return None;
     }
-    Some((octets - whole - 1) as u32)
+    Some(Digits {
+        number: (octets - whole - 1) as u32,
+    })
 }

@@ -24,6 +24,7 @@ pub struct Clock {
     pub time: Time,
 }
 
+// A sign and a size, as the octets have them, so that `-00:00` can be told from `+00:00`.
 #[derive(Clone, Copy)]
 pub struct Zone {
     pub minus: bool,

@@ -61,7 +61,7 @@ pub fn read_asking<T: Stamp, A: Copy, F: Fn(Date) -> A + Drop>(
         time: clock.time,
         offset: zone.offset(),
     };
-    let form = Form::Text(digits);
+    let form = Form::Text(digits.number);
     Ok((said, Answer { form, value }))
 }
 

@@ -13,6 +13,7 @@ ghost use Rattle.values.specs.Meaning.{value_from};
 ghost use Rattle.values.specs.Promise.{Writes};
 ghost use Rattle.text.specs.Putting.{date_octets, clock_octets, offset_octets};
 
+use crate::fraction::Digits;
 use crate::{lengths, parts, writing};
 use calendar::Date;
 use values::{Offset, Refusal, Stamp, Time, Value};
@@ -25,10 +26,13 @@ fn put_joint(buf: &mut [u8])
     buf[lengths::DATE] = parts::T;
 }
 
-fn digits_of<T: Stamp>(digits: u32) -> u32
-    ensures { result ≡ if_any (timed T.kind) digits }
+// Only a time has digits.
+fn digits_of<T: Stamp>(number: u32) -> Digits
+    requires { if_any (timed T.kind) number ≤ 6 }
+    ensures { result.number ≡ if_any (timed T.kind) number }
 {
-    if T::kind().timed() { digits } else { 0 }
+    let number = if T::kind().timed() { number } else { 0 };
+    Digits { number }
 }
 
 fn put_date_of<T: Stamp>(buf: &mut [u8], date: Date)
@@ -40,9 +44,9 @@ fn put_date_of<T: Stamp>(buf: &mut [u8], date: Date)
     }
 }
 
-fn put_time_of<T: Stamp>(buf: &mut [u8], digits: u32, time: Time)
-    requires { (needs (timed T.kind) (time_in_range time.micros) ≡ true) × (digits ≤ 6) × (if_any (dated T.kind) 10 + widths (clock_row (timed T.kind) (dated T.kind) digits) ≤ length buf.old) }
-    ensures { buf.new ≡ sets buf.old (if_any (dated T.kind) 10) (clock_octets (timed T.kind) (dated T.kind) digits time.micros) }
+fn put_time_of<T: Stamp>(buf: &mut [u8], digits: Digits, time: Time)
+    requires { (needs (timed T.kind) (time_in_range time.micros) ≡ true) × (if_any (dated T.kind) 10 + widths (clock_row (timed T.kind) (dated T.kind) digits.number) ≤ length buf.old) }
+    ensures { buf.new ≡ sets buf.old (if_any (dated T.kind) 10) (clock_octets (timed T.kind) (dated T.kind) digits.number time.micros) }
 {
     if !T::kind().timed() {
         return;
@@ -65,9 +69,8 @@ fn put_offset_of<T: Stamp>(buf: &mut [u8], end: usize, offset: Offset)
     }
 }
 
-// Only a time has digits.
 pub fn write<T: Stamp>(value: Value, digits: u32, buf: &mut [u8]) -> Result<usize, Refusal>
-    requires { digits ≤ 6 }
+    requires { if_any (timed T.kind) digits ≤ 6 }
     ensures { Writes (encode_in T.kind (text (if_any (timed T.kind) digits)) (value_from value)) buf.old result buf.new }
 {
     if !value.in_range(T::kind()) {

@@ -8,6 +8,7 @@ ghost use Rattle.octets.specs.Words.{low_octets};
 ghost use Rattle.calendar.specs.Meaning.{day_from};
 ghost use Rattle.text.specs.Putting.{date_octets, clock_octets, offset_octets, year_month_day, hour_minute_second, fraction_field, PointDigits, sign_hour_minute, sign_mark};
 
+use crate::fraction::Digits;
 use crate::parts::{MINUS, PLUS};
 use crate::words;
 use calendar::Date;
@@ -85,10 +86,14 @@ fn point_digits(micros: u32) -> u64
 }
 
 // How many octets the fraction takes: its point too.
-pub fn fraction_length(digits: u32) -> usize
-    ensures { result ≡ width (fraction_field digits) }
+pub fn fraction_length(digits: Digits) -> usize
+    ensures { result ≡ width (fraction_field digits.number) }
 {
-    if digits == 0 { 0 } else { digits as usize + 1 }
+    if digits.number == 0 {
+        0
+    } else {
+        digits.number as usize + 1
+    }
 }
 
 // The word to store so many octets further on: what is left of the first word, and then that many octets of the second, from its second on.
@@ -101,9 +106,9 @@ fn shifted(first: u64, second: u64, octets: usize) -> u64
 }
 
 // The second word begins so far into the first that it ends with the fraction: one way for any number of digits. Digits past it are cut.
-pub fn put_time(buf: &mut [u8], at: usize, digits: u32, time: Time)
-    requires { (time_in_range time.micros ≡ true) × (digits ≤ 6) × (at + (8 + width (fraction_field digits)) ≤ length buf.old) }
-    ensures { buf.new ≡ sets buf.old at (clock_octets true false digits time.micros) }
+pub fn put_time(buf: &mut [u8], at: usize, digits: Digits, time: Time)
+    requires { (time_in_range time.micros ≡ true) × (at + (8 + width (fraction_field digits.number)) ≤ length buf.old) }
+    ensures { buf.new ≡ sets buf.old at (clock_octets true false digits.number time.micros) }
 {
     let micros = time.micros;
     let clock = hour_minute_second(micros / 1000000);

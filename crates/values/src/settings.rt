@@ -11,7 +11,7 @@ pub enum Form {
     Extended,
 }
 
-// Text or binary; the version of whoever will read; the digits of a text's fraction.
+// As document 01 names them: text or binary; the version of whoever will read; the digits of a text's fraction.
 #[derive(Clone, Copy)]
 pub struct Settings {
     pub binary: bool,

@@ -1,5 +1,7 @@
 -- `write` meets its contract: the digits first, then the writer of the chosen form. Assumes nothing.
-use mathlib.Core.Path.{sym}
+use Rattle.std.proofs.Common.{sym, arith}
+use Rattle.format.specs.Values.{timed}
+use Rattle.text.proofs.Wholes.{if_most}
 use Rattle.values.proofs.Writes.{refuses}
 use Rattle.stamp.proofs.Choosing.{too_many, in_form, chosen_digits, timed_text, chosen_timed}
 use Rattle.stamp.proofs.writers.write.Goals as goal
@@ -8,7 +10,7 @@ pub returns-then-not-in_range : goal.returns-then-not-in_range
 returns-then-not-in_range g c = rw (too_many _ _ _ (sym c.if-not-in_range.ensures)) (refuses 1 _)
 
 pub write-requires : goal.write-requires
-write-requires g c = chosen_digits _ _ _ (sym c.if-not-in_range.ensures) _ c.in-Text.ensures
+write-requires g c = omega (arith, if_most (timed g.T.Stamp.kind) c.in-Text.digits, chosen_digits _ _ _ (sym c.if-not-in_range.ensures) _ c.in-Text.ensures)
 
 pub returns-in-Text : goal.returns-in-Text
 returns-in-Text g c =

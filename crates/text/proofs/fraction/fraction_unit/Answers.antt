@@ -33,4 +33,4 @@ unfolding fraction_unit
 returns-in_default c =
     let o = c.in_default.in_default-own.rest in
     let h = past _ 5 (past _ 4 (past _ 3 (past _ 2 (past _ 1 (past _ 0 (omega arith) o.0.0.0.0.0.1) o.0.0.0.0.1) o.0.0.0.1) o.0.0.1) o.0.1) o.1 in
-    rw (le_antisymm c.requires h)
+    rw (le_antisymm c.args.digits.few h)

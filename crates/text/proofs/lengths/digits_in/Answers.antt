@@ -5,7 +5,7 @@ use Rattle.text.proofs.DigitsFound.{whole_small, found_whole, none_plain, none_p
 use Rattle.text.proofs.lengths.digits_in.Goals as goal
 
 pub returns-then-octets-whole : goal.returns-then-octets-whole
-returns-then-octets-whole c = (found_whole _ _ _ c.whole_length-whole.ensures c.if-octets-whole.true, omega arith)
+returns-then-octets-whole c = found_whole _ _ _ c.whole_length-whole.ensures c.if-octets-whole.true
 
 pub returns-then-not-timed : goal.returns-then-not-timed
 returns-then-not-timed c = omega (arith, none_plain _ _ _ c.whole_length-whole.ensures c.if-octets-whole.false (sym c.if-not-timed.ensures))
@@ -26,5 +26,4 @@ returns-then-octets-shortest c =
     omega (arith, none)
 
 pub returns : goal.returns
-returns c =
-    (found_part _ _ _ c.whole_length-whole.ensures (sym c.if-not-timed.ensures) c.if-octets-shortest.false (omega (arith, c.if-longest-octets.false)), omega (arith, c.if-longest-octets.false))
+returns c = found_part _ _ _ c.whole_length-whole.ensures (sym c.if-not-timed.ensures) c.if-octets-shortest.false (omega (arith, c.if-longest-octets.false))

@@ -11,37 +11,37 @@ use Rattle.text.proofs.reading.read_asking.Goals.{In-Some, In-Some-date_of, In-S
 
 -- what is known behind each step
 
-opened : (g : Over) (c : In-Some g) → Opened g.T.Stamp.kind c.in-Some.digits c.args.s.now
-opened g c = open_text c.kind.ensures c.in-Some.ensures
+opened : (g : Over) (c : In-Some g) → Opened g.T.Stamp.kind c.in-Some.digits.number c.args.s.now
+opened g c = open_text c.in-Some.digits c.kind.ensures c.in-Some.ensures
 
-headed : (g : Over) (c : In-Some-date_of g) → Headed g.T.Stamp.kind c.in-Some.digits c.args.s.now (day_from c.in-Some-date_of.date) c.in-Some-date_of.past_date.at
-headed g c = date_read (open_text c.kind.ensures c.in-Some.ensures) c.in-Some-date_of.is c.date_of.ensures
+headed : (g : Over) (c : In-Some-date_of g) → Headed g.T.Stamp.kind c.in-Some.digits.number c.args.s.now (day_from c.in-Some-date_of.date) c.in-Some-date_of.past_date.at
+headed g c = date_read (open_text c.in-Some.digits c.kind.ensures c.in-Some.ensures) c.in-Some-date_of.is c.date_of.ensures
 
-front : (g : Over) (c : In-Some-joint_of g) → Front g.T.Stamp.kind c.in-Some.digits c.args.s.now (day_from c.in-Some-date_of.date) c.in-Some-joint_of.past_joint.at
+front : (g : Over) (c : In-Some-joint_of g) → Front g.T.Stamp.kind c.in-Some.digits.number c.args.s.now (day_from c.in-Some-date_of.date) c.in-Some-joint_of.past_joint.at
 front g c =
-    let headed = date_read (open_text c.kind.ensures c.in-Some.ensures) c.in-Some-date_of.is c.date_of.ensures in
+    let headed = date_read (open_text c.in-Some.digits c.kind.ensures c.in-Some.ensures) c.in-Some-date_of.is c.date_of.ensures in
     joint_read headed c.in-Some-joint_of.is c.joint_of.ensures
 
 paired : (g : Over) (c : In-Some-clock_of g)
-    → Paired g.T.Stamp.kind c.in-Some.digits c.args.s.now (day_from c.in-Some-date_of.date) c.in-Some-clock_of.hour c.in-Some-clock_of.minute c.in-Some-clock_of.second c.in-Some-clock_of.past_clock.at
+    → Paired g.T.Stamp.kind c.in-Some.digits.number c.args.s.now (day_from c.in-Some-date_of.date) c.in-Some-clock_of.hour c.in-Some-clock_of.minute c.in-Some-clock_of.second c.in-Some-clock_of.past_clock.at
 paired g c =
-    let headed = date_read (open_text c.kind.ensures c.in-Some.ensures) c.in-Some-date_of.is c.date_of.ensures in
+    let headed = date_read (open_text c.in-Some.digits c.kind.ensures c.in-Some.ensures) c.in-Some-date_of.is c.date_of.ensures in
     let front = joint_read headed c.in-Some-joint_of.is c.joint_of.ensures in
     clock_read front c.in-Some-clock_of.is c.clock_of.ensures
 
 rear : (g : Over) (c : In-Some-fraction_of g)
-    → Rear g.T.Stamp.kind c.in-Some.digits c.args.s.now (day_from c.in-Some-date_of.date)
+    → Rear g.T.Stamp.kind c.in-Some.digits.number c.args.s.now (day_from c.in-Some-date_of.date)
     (clock_with c.in-Some-clock_of.hour c.in-Some-clock_of.minute c.in-Some-clock_of.second c.in-Some-fraction_of.part)
     c.in-Some-fraction_of.past_fraction.at
 rear g c =
-    let headed = date_read (open_text c.kind.ensures c.in-Some.ensures) c.in-Some-date_of.is c.date_of.ensures in
+    let headed = date_read (open_text c.in-Some.digits c.kind.ensures c.in-Some.ensures) c.in-Some-date_of.is c.date_of.ensures in
     let front = joint_read headed c.in-Some-joint_of.is c.joint_of.ensures in
     let paired = clock_read front c.in-Some-clock_of.is c.clock_of.ensures in
     part_read paired c.in-Some-fraction_of.is c.fraction_of.ensures
 
-said : (g : Over) (c : After-new-clock g) → Said g.T.Stamp.kind c.in-Some.digits c.args.s.now (day_from c.in-Some-date_of.date) c.new-clock.result c.in-Some-zone_of.zone
+said : (g : Over) (c : After-new-clock g) → Said g.T.Stamp.kind c.in-Some.digits.number c.args.s.now (day_from c.in-Some-date_of.date) c.new-clock.result c.in-Some-zone_of.zone
 said g c =
-    let headed = date_read (open_text c.kind.ensures c.in-Some.ensures) c.in-Some-date_of.is c.date_of.ensures in
+    let headed = date_read (open_text c.in-Some.digits c.kind.ensures c.in-Some.ensures) c.in-Some-date_of.is c.date_of.ensures in
     let front = joint_read headed c.in-Some-joint_of.is c.joint_of.ensures in
     let paired = clock_read front c.in-Some-clock_of.is c.clock_of.ensures in
     let rear = part_read paired c.in-Some-fraction_of.is c.fraction_of.ensures in

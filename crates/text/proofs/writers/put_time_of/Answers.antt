@@ -19,12 +19,12 @@ returns-then-not-timed g c = rw (← c.kind.ensures, ← c.if-not-timed.ensures)
 pub put_joint-requires : goal.put_joint-requires
 put_joint-requires g c =
     let p = (goal.at.put_joint-requires g c).After-dated in
-    omega (arith, time_room g.T.Stamp.kind c.args.digits (there g p) true (date_is g p ∙ c.if-dated.true) c.requires.2)
+    omega (arith, time_room g.T.Stamp.kind c.args.digits.number (there g p) true (date_is g p ∙ c.if-dated.true) c.requires.1)
 
 pub put_time-requires : goal.put_time-requires
 put_time-requires g c =
     let p = (goal.at.put_time-requires g c).After-dated in
-    (rw (there g p) at c.requires.0, c.requires.1, omega (arith, time_room g.T.Stamp.kind c.args.digits (there g p) true (date_is g p ∙ c.if-dated.true) c.requires.2, c.put_joint.auto.buf))
+    (rw (there g p) at c.requires.0, omega (arith, time_room g.T.Stamp.kind c.args.digits.number (there g p) true (date_is g p ∙ c.if-dated.true) c.requires.1, c.put_joint.auto.buf))
 
 pub returns-then-dated : goal.returns-then-dated
 returns-then-dated g c =
@@ -34,4 +34,4 @@ returns-then-dated g c =
 pub put_time-requires-2 : goal.put_time-requires-2
 put_time-requires-2 g c =
     let p = (goal.at.put_time-requires-2 g c).After-dated in
-    (rw (there g p) at c.requires.0, c.requires.1, omega (arith, time_room g.T.Stamp.kind c.args.digits (there g p) false (date_is g p ∙ c.if-dated.false) c.requires.2))
+    (rw (there g p) at c.requires.0, omega (arith, time_room g.T.Stamp.kind c.args.digits.number (there g p) false (date_is g p ∙ c.if-dated.false) c.requires.1))

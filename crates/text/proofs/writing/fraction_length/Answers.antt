@@ -9,4 +9,4 @@ unfolding width
 returns-then-digits-eq0 c = rw c.if-digits-eq0.true
 
 pub returns-else-digits-eq0 : goal.returns-else-digits-eq0
-returns-else-digits-eq0 c = omega (arith, part_width c.args.digits c.if-digits-eq0.false)
+returns-else-digits-eq0 c = omega (arith, part_width c.args.digits.number c.if-digits-eq0.false)

@@ -9,12 +9,12 @@ hour_minute_second-clock-requires c = omega (arith, time_small c.args.time.micro
 
 pub shifted-requires : goal.shifted-requires
 shifted-requires c =
-    (omega (arith, c.fraction_length-octets.ensures, fraction_narrow c.args.digits, c.requires.1), c.point_digits-fraction.ensures.front)
+    (omega (arith, c.fraction_length-octets.ensures, fraction_narrow c.args.digits.number, c.args.digits.few), c.point_digits-fraction.ensures.front)
 
 pub returns : goal.returns
 returns c =
-    let few = fraction_narrow c.args.digits in
+    let few = fraction_narrow c.args.digits.number in
     c.put_low-2.ensures
     ∙ rw (c.put_low.ensures, c.shifted.ensures)
-    (time_stored c.args.buf.now c.args.at c.args.digits c.args.time.micros c.hour_minute_second-clock.result (c.point_digits-fraction.result / 256) c.fraction_length-octets.result
-    c.requires.1 c.fraction_length-octets.ensures (omega (arith, c.fraction_length-octets.ensures, few, c.requires.1)) c.hour_minute_second-clock.ensures c.point_digits-fraction.ensures.octets)
+    (time_stored c.args.buf.now c.args.at c.args.digits.number c.args.time.micros c.hour_minute_second-clock.result (c.point_digits-fraction.result / 256) c.fraction_length-octets.result
+    c.args.digits.few c.fraction_length-octets.ensures (omega (arith, c.fraction_length-octets.ensures, few, c.args.digits.few)) c.hour_minute_second-clock.ensures c.point_digits-fraction.ensures.octets)

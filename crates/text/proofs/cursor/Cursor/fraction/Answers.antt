@@ -8,11 +8,11 @@ use Rattle.text.proofs.cursor.Cursor.fraction.Goals as goal
 use Rattle.text.proofs.cursor.Cursor.fraction.Goals.{Then-digits-eq3}
 
 -- three digits and their point
-wide : (c : Then-digits-eq3) → width (fraction_field c.before.before.args.digits) ≡ 4
-wide c = part_width c.before.before.args.digits (omega (arith, c.if-digits-eq3.true)) ∙ rw c.if-digits-eq3.true
+wide : (c : Then-digits-eq3) → width (fraction_field c.before.before.args.digits.number) ≡ 4
+wide c = part_width c.before.before.args.digits.number (omega (arith, c.if-digits-eq3.true)) ∙ rw c.if-digits-eq3.true
 
 pub thousandths-requires : goal.thousandths-requires
-thousandths-requires c = omega (arith, c.requires.0, wide (goal.at.thousandths-requires c).Then-digits-eq3)
+thousandths-requires c = omega (arith, c.requires, wide (goal.at.thousandths-requires c).Then-digits-eq3)
 
 pub returns-then-digits-eq3 : goal.returns-then-digits-eq3
 returns-then-digits-eq3 c =

@@ -1,10 +1,10 @@
--- `put_record` meets its contract: each cast keeps its number. Assumes nothing.
+-- `record_parts` meets its contract: each cast keeps its number. Assumes nothing.
 use mir.Syntax.{w64}
 use mir.Facts.{to_z-of_z}
 use Rattle.boundary.specs.Files.{record_numbers}
 use Rattle.boundary.proofs.Parts.{unsigned_kept}
 use borrow.Author.Rules.{rules, sfits_of}
-use Rattle.boundary.proofs.files.put_record.Goals as goal
+use Rattle.boundary.proofs.files.record_parts.Goals as goal
 
 pub returns : goal.returns
 unfolding record_numbers

@@ -1,11 +1,11 @@
--- `put_stamp` meets its contract: each cast keeps its number. Assumes nothing.
+-- `stamp_parts` meets its contract: each cast keeps its number. Assumes nothing.
 use mir.Syntax.{w32}
 use mir.Val.{SFits}
 use mir.Facts.{to_z-of_z, sfits_widen}
 use borrow.Author.Rules.{rules, sfits_of}
 use Rattle.boundary.specs.Utc.{stamp_numbers}
 use Rattle.boundary.proofs.Parts.{five_kept}
-use Rattle.boundary.proofs.utc.put_stamp.Goals as goal
+use Rattle.boundary.proofs.utc.stamp_parts.Goals as goal
 
 pub overflow_cast-minutes : goal.overflow_cast-minutes
 overflow_cast-minutes c =
