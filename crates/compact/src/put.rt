@@ -26,7 +26,7 @@ impl Image {
         limits::front_octets(self.offset.is_some()) + self.octets
     }
 
-    #[tactic(auto, using(crate::proofs::Stored::image_length))]
+    #[tactic(auto, using(crate::proofs::Stored::image_length, crate::proofs::Stored::parts_stored))]
     pub fn put(self, kind: Kind, buf: &mut [u8])
         requires { length (image_octets self) ≤ length buf.old }
         ensures { buf.new ≡ sets buf.old 0 (image_octets self) }

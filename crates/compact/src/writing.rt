@@ -1,5 +1,5 @@
 // The compact image of a value: whether an offset stands in front, the number, and how many octets it takes.
-ghost use Rattle.std.specs.Prelude.{◌≡◌, true, ◌/◌};
+ghost use Rattle.std.specs.Prelude.{◌≡◌, true, not, ◌/◌};
 ghost use Rattle.format.specs.Words.{if_any, accepted, unless};
 ghost use Rattle.format.specs.Calendar.{day_number};
 ghost use Rattle.format.specs.Values.{dated, timed, in_range};
@@ -49,6 +49,15 @@ fn octets_of(kind: Kind, front: bool, number: i64) -> usize
     octets::fewest_octets(number).max(limits::padded_to(kind, front))
 }
 
+// Whether the value has no compact form: x, its number, is past the greatest. The value itself is only what the contract speaks of.
+#[inline(always)]
+fn is_beyond(kind: Kind, value: Value, front: bool, x: i64) -> bool
+    requires { (front ≡ carried (kind_from kind) (value_from value)) × (x ≡ number (kind_from kind) (value_from value)) }
+    ensures { result ≡ not (has_compact (kind_from kind) (value_from value)) }
+{
+    limits::greatest_number(kind, front) < x
+}
+
 // `day`: the day number of the value's date, where the kind has one.
 pub fn image(kind: Kind, value: Value, day: u32) -> Result<Image, Refusal>
     requires { (in_range (kind_from kind) (value_from value) ≡ true) × (dated (kind_from kind) ≡ true → day ≡ day_number (day_from value.date)) }
@@ -56,7 +65,7 @@ pub fn image(kind: Kind, value: Value, day: u32) -> Result<Image, Refusal>
 {
     let front = carries(kind, value);
     let number = number_of(kind, value, day);
-    if limits::greatest_number(kind, front) < number {
+    if is_beyond(kind, value, front, number) {
         return Err(Refusal::NoCompact); // past the last T
     }
     Ok(Image {

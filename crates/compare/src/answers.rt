@@ -15,7 +15,7 @@ use calendar::Date;
 use instants::Instant;
 use schedule::{Held, Record, Source};
 use show::Octets;
-use std::{fmt, io};
+use std::fmt;
 use values::{
     DateTz, Datetime, DatetimeTz, Decoded, Form, Kind, Refusal, Settings, Stamp, Time, TimeTz,
     Value,
@@ -133,76 +133,88 @@ fn read(reader: Reader, s: &[u8]) -> Result<Decoded, Refusal> {
 
 // ---- the cases
 
-fn print<T: fmt::Display + Copy, E: Into<u32> + Copy>(
-    rt: &impl Print,
+fn write_given<T: fmt::Display + Copy, E: Into<u32> + Copy>(
+    to: &mut impl fmt::Write,
     given: Result<T, E>,
-) -> io::Result<()> {
-    rt.println(Given(given))
+) -> fmt::Result {
+    write!(to, "{}", Given(given))
 }
 
-fn print_written(
-    rt: &impl Print,
+fn write_written(
+    to: &mut impl fmt::Write,
     kind: Kind,
     value: Value,
     settings: Settings,
     lent: &mut [u8],
-) -> io::Result<()> {
+) -> fmt::Result {
     match write(kind, value, settings, lent) {
-        Ok(count) => println!(rt; "0 {count} {}", Octets(lent)),
-        Err(refusal) => println!(rt; "{} 0 {}", u32::from(refusal), Octets(lent)),
+        Ok(count) => write!(to, "0 {count} {}", Octets(lent)),
+        Err(refusal) => write!(to, "{} 0 {}", u32::from(refusal), Octets(lent)),
     }
 }
 
-fn print_full(rt: &impl Print, file: &[u8]) -> io::Result<()> {
+fn write_full(to: &mut impl fmt::Write, file: &[u8]) -> fmt::Result {
     match schedule::read(file) {
-        Ok(records) => println!(rt; "0 {records}"),
-        Err(fault) => println!(rt; "{} {}", u32::from(fault.refusal), fault.place),
+        Ok(records) => write!(to, "0 {records}"),
+        Err(fault) => write!(to, "{} {}", u32::from(fault.refusal), fault.place),
     }
 }
 
 // Where the part stands is told by its numbers, the octets are those of the part itself.
-fn print_over(
-    rt: &impl Print,
+fn write_over(
+    to: &mut impl fmt::Write,
     plan: &[u8],
     manual: &[u8],
     instant: Instant,
     channel: u32,
-) -> io::Result<()> {
+) -> fmt::Result {
     let part = schedule::part_over(plan, manual, instant, channel);
     let octets = schedule::over(plan, manual, instant, channel);
     let which = match part.source {
         Source::Plan => 0,
         Source::Manual => 1,
     };
-    println!(rt; "{which} {} {} {}", part.start, part.length, Octets(octets))
+    write!(
+        to,
+        "{which} {} {} {}",
+        part.start,
+        part.length,
+        Octets(octets)
+    )
 }
 
-pub fn print_answer(rt: &impl Print, case: Case<'_>) -> io::Result<()> {
+pub fn write_answer(to: &mut impl fmt::Write, case: Case<'_>) -> fmt::Result {
     match case {
         Case::Write {
             kind,
             value,
             settings,
             lent,
-        } => print_written(rt, kind, value, settings, lent),
-        Case::Read(reader, octets) => print(rt, read(reader, octets).map(Stamped)),
-        Case::InstantOf(stamp) => print(rt, Instant::try_from(stamp).map(|it| it.micros)),
-        Case::Sum(instant, span) => print(rt, instant.add(span).map(|it| it.micros)),
-        Case::Difference(instant, other) => print(rt, instant.difference(other)),
-        Case::StampAt(instant, offset) => print(rt, instant.at(offset).map(|it| Parts(it.parts()))),
-        Case::Restated(stamp, to) => {
-            print(rt, instants::restate(stamp, to).map(|it| Parts(it.parts())))
+        } => write_written(to, kind, value, settings, lent),
+        Case::Read(reader, octets) => write_given(to, read(reader, octets).map(Stamped)),
+        Case::InstantOf(stamp) => write_given(to, Instant::try_from(stamp).map(|it| it.micros)),
+        Case::Sum(instant, span) => write_given(to, instant.add(span).map(|it| it.micros)),
+        Case::Difference(instant, other) => write_given(to, instant.difference(other)),
+        Case::StampAt(instant, offset) => write_given(
+            to,
+            instant.at(offset).map(|it| Parts(it.parts())),
+        ),
+        Case::Restated(stamp, offset) => {
+            write_given(
+                to,
+                instants::restate(stamp, offset).map(|it| Parts(it.parts())),
+            )
         }
-        Case::ReadFile(file) => print_full(rt, file),
-        Case::RecordAt(place, file) => print(rt, schedule::record_at(file, place).map(Found)),
+        Case::ReadFile(file) => write_full(to, file),
+        Case::RecordAt(place, file) => write_given(to, schedule::record_at(file, place).map(Found)),
         Case::Holds(instant, channel, file) => {
-            print(rt, schedule::holds(file, instant, channel).map(Holding))
+            write_given(to, schedule::holds(file, instant, channel).map(Holding))
         }
         Case::Over {
             plan,
             manual,
             instant,
             channel,
-        } => print_over(rt, plan, manual, instant, channel),
+        } => write_over(to, plan, manual, instant, channel),
     }
 }

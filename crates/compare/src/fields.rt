@@ -2,29 +2,35 @@
 ghost use Rattle.std.specs.Prelude.{◌<◌, IfSome};
 
 use std::num::ParseIntError;
-use std::str::{FromStr, Split};
+use std::str::FromStr;
 
+// What is left of the case, from the next field on; none behind the last one.
 #[derive(Drop)]
 pub struct Fields<'a> {
-    rest: Split<'a, char>,
+    rest: Option<&'a str>,
 }
 
 impl<'a> Fields<'a> {
     // Exactly one space stands between two fields.
     pub fn of(case: &'a str) -> Fields<'a> {
-        Fields {
-            rest: case.split(' '),
-        }
+        Fields { rest: Some(case) }
     }
 
+    // Octet by octet: to look for the space as a character costs more than all else that is done with a field.
     pub fn text(&mut self) -> Option<&'a str> {
-        self.rest.next()
+        let rest = self.rest?;
+        let Some(end) = rest.bytes().position(|octet| octet == b' ') else {
+            self.rest = None;
+            return Some(rest);
+        };
+        self.rest = rest.get(end + 1..);
+        rest.get(..end)
     }
 
     // Digits, behind a minus where the number's type has one: a plus, which `parse` takes, is none.
     pub fn number<N: FromStr<Err = ParseIntError>>(&mut self) -> Option<N> {
         let field = self.text()?;
-        if field.starts_with('+') {
+        if field.as_bytes().first() == Some(&b'+') {
             return None;
         }
         field.parse().ok()

@@ -3,27 +3,44 @@
 #![tactic(auto)]
 
 use crate::cases::{Case, Space};
-use std::io;
+use crate::line::Line;
+use std::fmt::Write;
 use std::io::{ErrorKind, Input, Read};
+use std::{fmt, io};
 
 mod answers;
 mod cases;
 mod fields;
+mod line;
 
 // All cases are held at once, so many octets at most.
 const MOST_OCTETS: usize = 4_194_303;
 
-fn answer(rt: &impl Print, line: &[u8], space: &mut Space) -> io::Result<()> {
-    match Case::of(line, space) {
-        Some(case) => answers::print_answer(rt, case),
-        None => println!(rt; "?"),
+fn answer(line: &mut Line, case: &[u8], space: &mut Space) -> fmt::Result {
+    match Case::of(case, space) {
+        Some(case) => answers::write_answer(line, case),
+        None => line.write_str("?"),
     }
 }
 
+// A line that has no room, which none is, ends the answers with an error.
+fn print_answer(to: &mut impl io::Write, case: &[u8], space: &mut Space) -> io::Result<()> {
+    let mut line = Line::new();
+    if answer(&mut line, case, space).is_err() || line.write_str("\n").is_err() {
+        return Err(ErrorKind::WriteZero.into());
+    }
+    to.write_all(line.written())
+}
+
 fn answer_all(rt: &impl Print, cases: &[u8]) -> io::Result<()> {
+    let mut to = io::writer(rt);
     let mut space = Space::new();
     for line in cases.split_inclusive(|octet| *octet == b'\n') {
-        answer(rt, line.strip_suffix(b"\n").unwrap_or(line), &mut space)?;
+        print_answer(
+            &mut to,
+            line.strip_suffix(b"\n").unwrap_or(line),
+            &mut space,
+        )?;
     }
     Ok(())
 }

@@ -1,11 +1,12 @@
 // Writing: the ranges, the room, then the image in two or three stores.
-ghost use Rattle.std.specs.Prelude.{◌≡◌, ◌+◌, ◌++◌, ◌<◌, ◌≤◌, true, length};
+ghost use Rattle.std.specs.Prelude.{◌≡◌, ◌+◌, ◌*◌, ◌++◌, ◌<◌, ◌≤◌, true, length};
 ghost use Rattle.std.proofs.lemmas.List.Edits.{sets};
 ghost use Rattle.format.specs.Words.{needs, if_any, accepted, unless};
+ghost use Rattle.format.specs.Floor.{mod_f};
 ghost use Rattle.format.specs.Calendar.{is_day, day_number};
 ghost use Rattle.format.specs.Values as format;
 ghost use Rattle.format.specs.Octets.{unsigned_octets};
-ghost use Rattle.format.specs.Extended.{day_width};
+ghost use Rattle.format.specs.Extended.{head_bits, day_width};
 ghost use Rattle.format.specs.Writing.{encode_in};
 ghost use Rattle.calendar.specs.Meaning.{day_from, number_answered};
 ghost use Rattle.values.specs.Meaning.{value_from};
@@ -13,7 +14,7 @@ ghost use Rattle.values.specs.Promise.{Writes};
 
 use crate::{head, image_length};
 use calendar::Date;
-use values::{Refusal, Stamp, Value};
+use values::{Offset, Refusal, Stamp, Value};
 
 // The day number, 0 where the kind has no date: no octet is written of it then.
 #[tactic(auto, unfolding(format::specs::Calendar::number_asked))]
@@ -26,6 +27,14 @@ fn day_of<T: Stamp>(date: Date) -> Option<u32>
         return calendar::day_number(date);
     }
     Some(0)
+}
+
+// The header of the kind, proved by itself: the writer asks nothing more of the kind for it.
+#[inline(always)]
+fn header_of<T: Stamp>(offset: Offset) -> u16
+    ensures { result ≡ head_bits T.kind * 4096 + if_any (format.zoned T.kind) (mod_f offset.minutes 4096) }
+{
+    head::header(T::kind(), offset)
 }
 
 // Without a day number the microseconds are five octets by themselves.
@@ -72,7 +81,7 @@ pub fn write<T: Stamp>(value: Value, buf: &mut [u8]) -> Result<usize, Refusal>
     if buf.len() < length {
         return Err(Refusal::Buffer);
     }
-    let header = head::header(T::kind(), value.offset);
+    let header = header_of::<T>(value.offset);
     put::<T>(buf, header, day, value.time.micros);
     Ok(length)
 }

@@ -33,6 +33,9 @@ module _ (k : Kind) (s : List ℕ) where
   unfolding read form_in
   as_text h e = rw (lt-leb (length s) (longest k) h, e)
 
+-- what the search looks at in `parse`
+pub ruleset found = (as_compact, as_extended, as_text)
+
 -- ---- writing: the digits come first, whatever the kind and the form
 
 module _ (k : Kind) (t : Settings) (v : Value) where
@@ -65,3 +68,6 @@ module _ (k : Kind) (t : Settings) (v : Value) (l : digits_in_range t.digits ≡
   pub chosen_timed : extended ≡ form_for k t v → timed k ≡ true
   unfolding kind_has
   chosen_timed c = has extended c
+
+-- what the search looks at in `write`
+pub ruleset written = (too_many, in_form, chosen_digits, timed_text, chosen_timed)

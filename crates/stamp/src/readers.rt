@@ -26,6 +26,7 @@ fn is_extended(kind: Kind, s: &[u8]) -> bool
 }
 
 // 01's table: so many octets are compact; of more, those with the kind's first four bits are extended, and the others text.
+#[tactic(auto, using(crate::proofs::Choosing::found))]
 fn parse<T: Stamp>(s: &[u8]) -> Result<Answer<Value>, Refusal>
     ensures { Parses T.kind (reading.read T.kind s.now) result }
 {

@@ -4,6 +4,7 @@ ghost use Rattle.stamp.specs.Calls.{WritesStamp};
 
 use values::{Form, Refusal, Settings, Stamp};
 
+#[tactic(auto, using(crate::proofs::Choosing::written))]
 pub fn write<T: Stamp>(value: T, settings: Settings, buf: &mut [u8]) -> Result<usize, Refusal>
     ensures { WritesStamp T.kind T.value settings value buf.old result buf.new }
 {

@@ -4,13 +4,13 @@ ghost use Rattle.std.specs.Prelude.{◌≡◌, ◌+◌, ◌-◌, ◌≤◌, true
 ghost use Rattle.std.proofs.lemmas.List.Edits.{sets};
 ghost use Rattle.format.specs.Words.{needs, if_any};
 ghost use Rattle.format.specs.Calendar.{is_day};
-ghost use Rattle.format.specs.Values.{text, dated, timed, zoned, time_in_range, offset_in_range};
+ghost use Rattle.format.specs.Values.{text, dated, timed, zoned, time_in_range, offset_in_range, in_range};
 ghost use Rattle.format.specs.Fields.{widths};
-ghost use Rattle.format.specs.Text.{clock_row};
+ghost use Rattle.format.specs.Text.{clock_row, text_length};
 ghost use Rattle.format.specs.Writing.{encode_in};
 ghost use Rattle.calendar.specs.Meaning.{day_from};
 ghost use Rattle.values.specs.Meaning.{value_from};
-ghost use Rattle.values.specs.Promise.{Writes};
+ghost use Rattle.values.specs.Promise.{Left, Writes};
 ghost use Rattle.text.specs.Putting.{date_octets, clock_octets, offset_octets};
 
 use crate::fraction::Digits;
@@ -69,6 +69,17 @@ fn put_offset_of<T: Stamp>(buf: &mut [u8], end: usize, offset: Offset)
     }
 }
 
+// The parts of a value in range, each at its place in a buffer with room for them all: its text, which has `end` octets.
+#[inline(always)]
+fn put_parts<T: Stamp>(buf: &mut [u8], end: usize, digits: Digits, value: Value)
+    requires { (in_range T.kind (value_from value) ≡ true) × (end ≡ text_length T.kind digits.number) × (end ≤ length buf.old) }
+    ensures { Left (encode_in T.kind (text digits.number) (value_from value)) buf.old 0 end buf.new }
+{
+    put_date_of::<T>(buf, value.date);
+    put_time_of::<T>(buf, digits, value.time);
+    put_offset_of::<T>(buf, end, value.offset);
+}
+
 pub fn write<T: Stamp>(value: Value, digits: u32, buf: &mut [u8]) -> Result<usize, Refusal>
     requires { if_any (timed T.kind) digits ≤ 6 }
     ensures { Writes (encode_in T.kind (text (if_any (timed T.kind) digits)) (value_from value)) buf.old result buf.new }
@@ -81,8 +92,6 @@ pub fn write<T: Stamp>(value: Value, digits: u32, buf: &mut [u8]) -> Result<usiz
     if buf.len() < length {
         return Err(Refusal::Buffer);
     }
-    put_date_of::<T>(buf, value.date);
-    put_time_of::<T>(buf, digits, value.time);
-    put_offset_of::<T>(buf, length, value.offset);
+    put_parts::<T>(buf, length, digits, value);
     Ok(length)
 }

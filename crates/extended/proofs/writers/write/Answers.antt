@@ -28,4 +28,4 @@ put-requires g c = (
 pub returns : goal.returns
 returns g c =
     wrote _ _ (is_day_lem _ _ _ c.in-Some.ensures) (rw c.kind.ensures at (sym c.if-not-rest_in_range.ensures)) _ c.image_length-length.ensures _ _ c.if-buf-length.false
-    (rw (← image_is _ (value_from c.args.value) _ _ (rw c.kind-2.ensures at c.header-header.ensures) (number_is _ _ _ c.in-Some.ensures)) c.put.ensures)
+    (rw (← image_is _ (value_from c.args.value) _ _ c.header_of-header.ensures (number_is _ _ _ c.in-Some.ensures)) c.put.ensures)
