@@ -18,6 +18,10 @@ impl Line {
         }
     }
 
+    pub fn clear(&mut self) {
+        self.length = 0;
+    }
+
     pub fn written(&self) -> &[u8] {
         self.octets.get(..self.length).unwrap_or(&[])
     }

@@ -24,9 +24,14 @@ fn answer(line: &mut Line, case: &[u8], space: &mut Space) -> fmt::Result {
 }
 
 // A line that has no room, which none is, ends the answers with an error.
-fn print_answer(to: &mut impl io::Write, case: &[u8], space: &mut Space) -> io::Result<()> {
-    let mut line = Line::new();
-    if answer(&mut line, case, space).is_err() || line.write_str("\n").is_err() {
+fn print_answer(
+    to: &mut impl io::Write,
+    line: &mut Line,
+    case: &[u8],
+    space: &mut Space,
+) -> io::Result<()> {
+    line.clear();
+    if answer(line, case, space).is_err() || line.write_str("\n").is_err() {
         return Err(ErrorKind::WriteZero.into());
     }
     to.write_all(line.written())
@@ -34,13 +39,11 @@ fn print_answer(to: &mut impl io::Write, case: &[u8], space: &mut Space) -> io::
 
 fn answer_all(rt: &impl Print, cases: &[u8]) -> io::Result<()> {
     let mut to = io::writer(rt);
+    let mut line = Line::new();
     let mut space = Space::new();
-    for line in cases.split_inclusive(|octet| *octet == b'\n') {
-        print_answer(
-            &mut to,
-            line.strip_suffix(b"\n").unwrap_or(line),
-            &mut space,
-        )?;
+    for case in cases.split_inclusive(|octet| *octet == b'\n') {
+        let case = case.strip_suffix(b"\n").unwrap_or(case);
+        print_answer(&mut to, &mut line, case, &mut space)?;
     }
     Ok(())
 }

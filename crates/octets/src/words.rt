@@ -3,12 +3,21 @@ ghost use Rattle.std.specs.Prelude.{◌≡◌, ◌+◌, ◌≤◌, length};
 ghost use Rattle.std.proofs.lemmas.List.Edits.{sets};
 ghost use Rattle.format.specs.Octets.{unsigned_octets, unsigned_at};
 
+// All eight octets of `x`, for a caller that keeps the last `N` of them.
+#[inline(always)]
+#[tactic(auto, using(crate::proofs::Storing::eight_octets))]
+fn all_octets<const N: usize>(x: u64) -> [u8; 8]
+    ensures { result ≡ unsigned_octets 8 x }
+{
+    x.to_be_bytes()
+}
+
 // The last `N` octets of `x`, at `at`.
 pub fn put_unsigned<const N: usize>(buf: &mut [u8], at: usize, x: u64)
     requires { (at + N ≤ length buf.old) × (N ≤ 8) }
     ensures { buf.new ≡ sets buf.old at (unsigned_octets N x) }
 {
-    buf[at..at + N].copy_from_slice(&x.to_be_bytes()[8 - N..]);
+    buf[at..at + N].copy_from_slice(&all_octets::<N>(x)[8 - N..]);
 }
 
 pub fn take4(s: &[u8], at: usize) -> u32

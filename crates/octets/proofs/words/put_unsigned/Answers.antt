@@ -3,7 +3,7 @@ use Rattle.std.proofs.Common.{◌≡◌, ◌+◌, ◌-◌, arith, ◌∙◌}
 use Rattle.std.proofs.lemmas.List.{take_all}
 use Rattle.format.specs.Octets.{unsigned_octets}
 use Rattle.format.proofs.Unsigned.{unsigned_length}
-use Rattle.octets.proofs.Storing.{eight_octets, last_octets, stored}
+use Rattle.octets.proofs.Storing.{last_octets, stored}
 use Rattle.octets.proofs.words.put_unsigned.Goals as goal
 
 pub returns : goal.returns
@@ -14,5 +14,5 @@ returns g c =
     let m : 8 - (8 - n) ≡ n = omega (arith, c.requires.1) in
     let l = unsigned_length n x in
     let last = rw k at (last_octets (8 - n) n x) in
-    let taken : c.copy_from_slice.new.self ≡ unsigned_octets n x = c.copy_from_slice.ensures.after ∙ rw (c.to_be_bytes.ensures, eight_octets x, m, last) (take_all n (unsigned_octets n x) (omega (arith, l))) in
+    let taken : c.copy_from_slice.new.self ≡ unsigned_octets n x = c.copy_from_slice.ensures.after ∙ rw (c.all_octets.ensures, m, last) (take_all n (unsigned_octets n x) (omega (arith, l))) in
     rw taken (stored c.args.buf.now (unsigned_octets n x) c.args.at n l c.requires.0)
